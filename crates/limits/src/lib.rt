@@ -1,0 +1,20 @@
+// The limits of document 01, each in one place. specs/Limits.antt has a definition of the same meaning for each.
+
+// Threads of a program at most.
+pub const THREADS: usize = 8;
+
+// Locations of a program at most, and the type of a set of them: one bit for each.
+pub const LOCATIONS: usize = 8;
+
+pub type LocSet = u8;
+
+// Values of a location at most, and the type of a set of them: one bit for each.
+pub const VALUES: usize = 16;
+
+pub type ValSet = u16;
+
+// Lines of a thread at most.
+pub const LINES: usize = 64;
+
+// Registers of a thread.
+pub const REGISTERS: usize = 4;
