@@ -1,0 +1,4 @@
+pub mod Outcome
+pub mod Ops
+pub mod Format
+pub mod Spelling
