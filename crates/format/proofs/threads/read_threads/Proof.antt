@@ -1,0 +1,131 @@
+use borrow.Author.Needs.{needs}
+use Rattle.format.proofs.threads.read_threads.Statement.{statement}
+use Rattle.format.proofs.threads.read_threads.Tie as tie
+use Rattle.format.proofs.threads.read_threads.Reads as reads
+use Rattle.format.proofs.threads.read_threads.Lts as lts
+use Rattle.format.proofs.no_header.Reads as no-header-reads
+use Rattle.format.proofs.refused.Reads as refused-reads
+use Rattle.format.proofs.threads.read_thread.Reads as read-thread-reads
+
+abbrev Inv-loop : tie.InvT-loop
+Inv-loop bytes t l k count header₀ next₀ i₀ header next i = ?
+
+abbrev μ-loop : tie.MeasureT-loop
+μ-loop bytes t l k count header₀ next₀ i₀ header next i = ?
+
+-- src/threads.rt:41:22
+no-header-requires : tie.Need-no-header-requires Inv-loop μ-loop
+no-header-requires c κs = search needs
+
+-- src/threads.rt:47:5
+loop-holds : tie.Need-loop-holds Inv-loop μ-loop
+loop-holds c = search needs
+
+-- src/threads.rt:48:13
+read-thread-requires : tie.Need-read-thread-requires Inv-loop μ-loop
+read-thread-requires c κs = search needs
+
+-- src/threads.rt:50:28
+enum-known-thread : tie.Need-enum-known-thread Inv-loop μ-loop
+enum-known-thread c = search needs
+
+-- src/threads.rt:51:17
+refused-requires : tie.Need-refused-requires Inv-loop μ-loop
+refused-requires c κs = search needs
+
+-- src/threads.rt:51:17
+returns : tie.Need-returns Inv-loop μ-loop
+returns c = search needs
+
+-- src/threads.rt:53:27
+enum-known-thread-2 : tie.Need-enum-known-thread-2 Inv-loop μ-loop
+enum-known-thread-2 c = search needs
+
+-- src/threads.rt:54:29
+cast-lines : tie.Need-cast-lines Inv-loop μ-loop
+cast-lines c = search needs
+
+-- src/threads.rt:55:36
+add-header : tie.Need-add-header Inv-loop μ-loop
+add-header c = search needs
+
+-- src/threads.rt:55:17
+mul-header : tie.Need-mul-header Inv-loop μ-loop
+mul-header c = search needs
+
+-- src/threads.rt:55:17
+element-write-header : tie.Need-element-write-header Inv-loop μ-loop
+element-write-header c = search needs
+
+-- src/threads.rt:56:17
+mul-header-2 : tie.Need-mul-header-2 Inv-loop μ-loop
+mul-header-2 c = search needs
+
+-- src/threads.rt:56:17
+element-write-header-2 : tie.Need-element-write-header-2 Inv-loop μ-loop
+element-write-header-2 c = search needs
+
+-- src/threads.rt:57:24
+add-next : tie.Need-add-next Inv-loop μ-loop
+add-next c = search needs
+
+-- src/threads.rt:57:35
+mul-next : tie.Need-mul-next Inv-loop μ-loop
+mul-next c = search needs
+
+-- src/threads.rt:57:24
+add-next-2 : tie.Need-add-next-2 Inv-loop μ-loop
+add-next-2 c = search needs
+
+-- src/threads.rt:58:21
+add-i : tie.Need-add-i Inv-loop μ-loop
+add-i c = search needs
+
+-- src/threads.rt:47:5
+loop-less : tie.Need-loop-less Inv-loop μ-loop
+loop-less c = search needs
+
+-- src/threads.rt:47:5
+loop-again : tie.Need-loop-again Inv-loop μ-loop
+loop-again c = search needs
+
+-- src/threads.rt:63:9
+refused-requires-2 : tie.Need-refused-requires-2 Inv-loop μ-loop
+refused-requires-2 c κs = search needs
+
+-- src/threads.rt:63:9
+returns-2 : tie.Need-returns-2 Inv-loop μ-loop
+returns-2 c = search needs
+
+-- src/threads.rt:37:1
+returns-3 : tie.Need-returns-3 Inv-loop μ-loop
+returns-3 c = search needs
+
+pub read-threads-spec : {M : Type 1} → statement M
+read-threads-spec =
+    tie.close
+    (tie.spec
+    Inv-loop
+    μ-loop
+    no-header-requires
+    loop-holds
+    read-thread-requires
+    enum-known-thread
+    refused-requires
+    returns
+    enum-known-thread-2
+    cast-lines
+    add-header
+    mul-header
+    element-write-header
+    mul-header-2
+    element-write-header-2
+    add-next
+    mul-next
+    add-next-2
+    add-i
+    loop-less
+    loop-again
+    refused-requires-2
+    returns-2
+    returns-3)
