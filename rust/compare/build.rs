@@ -10,7 +10,8 @@ const LIBRARY: &str = "order_read_c";
 const DIRECTORY: &str = "ORDER_STATICLIB";
 
 fn main() {
-    let root = PathBuf::from(env::var_os("CARGO_MANIFEST_DIR").expect("cargo sets it")).join("../..");
+    let here = PathBuf::from(env::var_os("CARGO_MANIFEST_DIR").expect("cargo sets it"));
+    let root = here.ancestors().nth(2).expect("the crate stands in rust/ at the root");
     let directory = env::var_os(DIRECTORY).map_or(root.join("target/staticlib"), PathBuf::from);
     let archive = directory.join(format!("lib{LIBRARY}.a"));
     println!("cargo:rerun-if-env-changed={DIRECTORY}");

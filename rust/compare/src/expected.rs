@@ -2,7 +2,7 @@
 
 use second::Program;
 
-use crate::library::{Fields, Header};
+use crate::library::{Fields, Header, COUNTS, STARTS};
 
 /// The lengths of a PR, a TH and an IN record in document 01.
 const PR: u64 = 5;
@@ -21,8 +21,8 @@ pub fn header(program: &Result<Program, u8>) -> Header {
             let mut end = PR;
             for (thread, lines) in threads.iter().enumerate() {
                 let (start, count) = (end + TH, lines.len() as u64);
-                header[4 + thread] = start;
-                header[12 + thread] = count;
+                header[STARTS + thread] = start;
+                header[COUNTS + thread] = count;
                 end = start + IN * count;
             }
         }

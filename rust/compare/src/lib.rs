@@ -18,8 +18,10 @@ pub fn difference(bytes: &[u8]) -> Option<String> {
         .iter()
         .enumerate()
         .flat_map(|(thread, lines)| (0..=lines.len()).map(move |line| (thread, line)));
-    let missing = [(threads.len(), 0), (0, usize::MAX), (usize::MAX, 0), (usize::MAX, usize::MAX)];
-    lines.chain(missing).find_map(|(thread, line)| {
+    // Of a refused program no line is there, not even those before the fault.
+    let first = [(0, 0), (0, 1), (1, 0), (1, 1)];
+    let past = [(threads.len(), 0), (0, usize::MAX), (usize::MAX, 0), (usize::MAX, usize::MAX)];
+    lines.chain(first).chain(past).find_map(|(thread, line)| {
         let found = library::line(bytes, thread, line);
         let expected = expected::line(&program, thread, line);
         let what = || format!("thread {thread}, line {line}: expected {expected:?}, found {found:?}");

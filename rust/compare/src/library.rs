@@ -4,6 +4,12 @@
 /// which its first line record starts, then for each its number of lines. All that is not used is 0.
 pub type Header = [u64; 20];
 
+/// Where the starts of the threads stand in a header.
+pub const STARTS: usize = 4;
+
+/// Where the numbers of lines stand in a header.
+pub const COUNTS: usize = 12;
+
 /// What `order_line` writes: op, reg, target, A, B as in the bytes, or 0 where there is no such line.
 pub type Fields = [u64; 5];
 

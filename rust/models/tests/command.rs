@@ -6,8 +6,8 @@ use std::path::PathBuf;
 use std::process::{Command, Output, Stdio};
 
 const SB: &str = "values 2\nlocations x y\nthread\n  x := 1\n  r0 := y\nthread\n  y := 1\n  r0 := x\n";
-const SB_BYTES: &[u8] =
-    b"PR\x02\x02\x02TH\x02IN\x05\x00\x00\x01\x00IN\x06\x00\x01\x00\x00TH\x02IN\x05\x00\x01\x01\x00IN\x06\x00\x00\x00\x00";
+const SB_BYTES: &[u8] = b"PR\x02\x02\x02TH\x02IN\x05\x00\x00\x01\x00IN\x06\x00\x01\x00\x00\
+      TH\x02IN\x05\x00\x01\x01\x00IN\x06\x00\x00\x00\x00";
 
 /// Runs it in a directory of the test's own, with this standard input.
 fn run(test: &str, arguments: &[&str], input: &[u8]) -> Output {
@@ -79,7 +79,9 @@ fn a_mistake_has_its_file_line_and_column_and_leaves_no_output() {
     let test = "mistake";
     let text = SB.replace("r0 := x", "r0 := z");
     fs::write(directory(test).join("bad.order"), &text).unwrap();
-    let what = "8:9: expected a value from 0 to 1, a register (r0 to r3), a location (x, y), 'FADD' or 'CAS', found 'z'\n";
+    let what =
+        "8:9: expected a value from 0 to 1, a register (r0 to r3), a location (x, y), 'FADD' or 'CAS', \
+                found 'z'\n";
     bad(&run(test, &["bad.order"], b""), 1, &format!("bad.order:{what}"));
     bad(&run(test, &[], text.as_bytes()), 1, &format!("standard input:{what}"));
 

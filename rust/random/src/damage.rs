@@ -44,7 +44,8 @@ fn telling(numbers: &mut Numbers) -> u8 {
     }
 }
 
-/// Fewer than `end` bytes without plan, where `end` is not 0; half of the time the mark of a program stands before them.
+/// Fewer than `end` bytes without plan, where `end` is not 0. Half of the time the mark of a program stands before
+/// them.
 pub fn noise(numbers: &mut Numbers, end: usize) -> Vec<u8> {
     let mut bytes: Vec<u8> = (0..numbers.below(end)).map(|_| telling(numbers)).collect();
     if numbers.once_in(2) {

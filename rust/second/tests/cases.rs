@@ -4,8 +4,8 @@ use second::Operand::{Constant, Register};
 use second::{read, Line, Program};
 
 /// SB: x := 1; read y ‖ y := 1; read x; K = 2.
-const SB: &[u8] =
-    b"PR\x02\x02\x02TH\x02IN\x05\x00\x00\x01\x00IN\x06\x00\x01\x00\x00TH\x02IN\x05\x00\x01\x01\x00IN\x06\x00\x00\x00\x00";
+const SB: &[u8] = b"PR\x02\x02\x02TH\x02IN\x05\x00\x00\x01\x00IN\x06\x00\x01\x00\x00\
+      TH\x02IN\x05\x00\x01\x01\x00IN\x06\x00\x00\x00\x00";
 
 /// One thread of one line, which jumps to `target`.
 fn jump_to(target: u8) -> Vec<u8> {
