@@ -1,4 +1,4 @@
--- A line there and back: what an accepted IN record is, and the reading of a line's spelling.
+-- An accepted line: its record is the spelling of a line within the limits.
 use Prim.Native.Nat.{ℕ, suc, _≤_, _<_}
 use mathlib.Core.Bool.{Bool, true, false, cond, _&&_, and-eq-true-iff}
 use mathlib.Core.List.{List, [], _∷_, _++_}
@@ -108,16 +108,7 @@ pub record LineRead (L K n : ℕ) (bytes : List ℕ) (line : Line) (rest : List 
   pub whole : sizeIN ≤ length bytes
   pub after : rest ≡ drop sizeIN bytes
   pub fields :
-      FieldsRead
-      L
-      K
-      n
-      (getD bytes 2 0)
-      (getD bytes 3 0)
-      (getD bytes 4 0)
-      (getD bytes 5 0)
-      (getD bytes 6 0)
-      line
+      FieldsRead L K n (getD bytes 2 0) (getD bytes 3 0) (getD bytes 4 0) (getD bytes 5 0) (getD bytes 6 0) line
   pub within : LineWithin L K n line
   pub spelled : bytes ≡ spellLine line ++ rest
 

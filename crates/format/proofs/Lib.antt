@@ -4,3 +4,8 @@ pub mod FieldLaws
 pub mod RowLaws
 pub mod AcceptedLine
 pub mod SpelledLine
+pub mod SpellingLength
+pub mod AcceptedThreads
+pub mod SpelledThreads
+pub mod HeaderLaws
+pub mod RoundTrip

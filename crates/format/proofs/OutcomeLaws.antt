@@ -58,3 +58,29 @@ module _ {A B : Type 0} where
   unfolding andThen
   andThen-refused (accepted a) f e = inr (a, refl, e)
   andThen-refused (refused k) f e = inl (ap refused (refused-injective e))
+
+-- One part and then the others, each read with the bytes after it: the step of readLines and of readThreads.
+module _ {A : Type 0} where
+  abbrev pub readMore : Outcome (A × List ℕ) → (List ℕ → Outcome (List A × List ℕ)) → Outcome (List A × List ℕ)
+  readMore one others =
+      andThen one
+      (λ first. andThen (others (first .1)) (λ more. accepted (first .0 ∷ more .0, more .1)))
+
+  pub more-accepted : (one : Outcome (A × List ℕ)) (others : List ℕ → Outcome (List A × List ℕ)) {got : List A × List ℕ}
+      → readMore one others ≡ accepted got
+      → (first : A × List ℕ)
+      × (more : List A × List ℕ)
+      × (one ≡ accepted first)
+      × (others (first .1) ≡ accepted more)
+      × ((first .0 ∷ more .0, more .1) ≡ got)
+  more-accepted one others e =
+      let (first, at-first, then) = andThen-accepted one _ e in
+      let (more, at-others, end) = andThen-accepted (others (first .1)) _ then in
+      (first, more, at-first, at-others, accepted-injective end)
+
+  pub more-read : (one : Outcome (A × List ℕ)) (others : List ℕ → Outcome (List A × List ℕ))
+      {a : A} {parts : List A} {mid rest : List ℕ}
+      → one ≡ accepted (a, mid)
+      → others mid ≡ accepted (parts, rest)
+      → readMore one others ≡ accepted (a ∷ parts, rest)
+  more-read one others at-first at-others = andThen-goes-on one _ at-first ∙ andThen-goes-on _ _ at-others

@@ -61,26 +61,15 @@ module _ (L K n : ℕ) (some-values : minValues ≤ K) (few-values : K ≤ maxVa
       ≡ accepted (opAt op .makes reg target a b, rest)
   unfolding isRegAndRest areOperands
   row-read op reg target a b rest known reg-in-range zeros target-in-range a-within b-within =
+      let six = and-eq-true-iff _ _ .1 (reg-in-range, zeros) in
+      let a-in-range = passes-when-used (opAt op .a) _ (operand-byte-in-range K a a-within) in
+      let b-in-range = passes-when-used (opAt op .b) _ (operand-byte-in-range K b b-within) in
+      let eight = and-eq-true-iff _ _ .1 (a-in-range, b-in-range) in
+      let a-read = operand-read K a (omega arith) a-within in
+      let b-read = operand-read K b (omega arith) b-within in
       line-record-found L K n op reg target (operandByte a) (operandByte b) rest
-      (fields-accepted
-      L
-      K
-      n
-      op
-      reg
-      target
-      (operandByte a)
-      (operandByte b)
-      known
-      (and-eq-true-iff _ _ .1 (reg-in-range, zeros))
-      target-in-range
-      (and-eq-true-iff _ _ .1 (
-        passes-when-used (opAt op .a) _ (operand-byte-in-range K a a-within),
-        passes-when-used (opAt op .b) _ (operand-byte-in-range K b b-within),
-      ))
-      ∙ ap₂ (λ x y. accepted (opAt op .makes reg target x y))
-      (operand-read K a (omega arith) a-within)
-      (operand-read K b (omega arith) b-within))
+      (fields-accepted L K n op reg target (operandByte a) (operandByte b) known six target-in-range eight
+      ∙ ap₂ (λ x y. accepted (opAt op .makes reg target x y)) a-read b-read)
 
   unused-within : OperandWithin K unused
   unfolding OperandWithin
