@@ -9,3 +9,5 @@ pub mod AcceptedThreads
 pub mod SpelledThreads
 pub mod HeaderLaws
 pub mod RoundTrip
+pub mod Refusals
+pub mod Places

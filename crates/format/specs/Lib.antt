@@ -2,3 +2,4 @@ pub mod Outcome
 pub mod Ops
 pub mod Format
 pub mod Spelling
+pub mod Layout
