@@ -14,8 +14,10 @@ use Rattle.format.specs.Format.{markTH, sizeTH, sizeIN, isRecord, readLi
 use Rattle.format.specs.Spelling.{spellLine, spellLines, spellThread, spellThreads, LineWithin, ThreadWithin}
 use Rattle.format.specs.Spelling.{All}
 use Rattle.format.specs.Spelling.All.{none, more}
-use Rattle.format.proofs.OutcomeLaws.{accepted-injective, check-accepted, more-accepted}
-use Rattle.format.proofs.RecordLaws.{record-stands, front-is-whole, after-front, fronts-join}
+use Rattle.format.proofs.OutcomeLaws.{accepted-injective, check-accepted}
+use Rattle.format.proofs.PartsLaws.{more-accepted}
+use Rattle.format.proofs.RecordLaws.{record-stands}
+use Rattle.format.proofs.FrontLaws.{front-is-whole, after-front, fronts-join}
 use Rattle.format.proofs.SpellingLength.{length-spellLine, length-spellLines, length-spellThread}
 use Rattle.format.proofs.AcceptedLine.{LineRead, line-read}
 

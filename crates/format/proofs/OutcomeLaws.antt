@@ -1,9 +1,8 @@
 -- Laws of Outcome: what check and andThen come to, and what an accepted or a refused outcome says of their parts.
-use Prim.Native.Nat.{ℕ, _≤_}
+use Prim.Native.Nat.{ℕ}
 use mathlib.Core.Bool.{Bool, true, false}
-use mathlib.Core.List.{List, [], _∷_}
 use mathlib.Core.Logic.{_⊎_, inl, inr}
-use mathlib.Core.Path.{_≡_, refl, sym, ap, _∙_}
+use mathlib.Core.Path.{_≡_, refl, sym, ap}
 use native.Mathlib.Omega.{arith}
 use Rattle.format.specs.Outcome.{Outcome, check, andThen}
 use Rattle.format.specs.Outcome.Outcome.{refused, accepted}
@@ -59,28 +58,9 @@ module _ {A B : Type 0} where
   andThen-refused (accepted a) f e = inr (a, refl, e)
   andThen-refused (refused k) f e = inl (ap refused (refused-injective e))
 
--- One part and then the others, each read with the bytes after it: the step of readLines and of readThreads.
-module _ {A : Type 0} where
-  abbrev pub readMore : Outcome (A × List ℕ) → (List ℕ → Outcome (List A × List ℕ)) → Outcome (List A × List ℕ)
-  readMore one others =
-      andThen one
-      (λ first. andThen (others (first .1)) (λ more. accepted (first .0 ∷ more .0, more .1)))
-
-  pub more-accepted : (one : Outcome (A × List ℕ)) (others : List ℕ → Outcome (List A × List ℕ)) {got : List A × List ℕ}
-      → readMore one others ≡ accepted got
-      → (first : A × List ℕ)
-      × (more : List A × List ℕ)
-      × (one ≡ accepted first)
-      × (others (first .1) ≡ accepted more)
-      × ((first .0 ∷ more .0, more .1) ≡ got)
-  more-accepted one others e =
-      let (first, at-first, then) = andThen-accepted one _ e in
-      let (more, at-others, end) = andThen-accepted (others (first .1)) _ then in
-      (first, more, at-first, at-others, accepted-injective end)
-
-  pub more-read : (one : Outcome (A × List ℕ)) (others : List ℕ → Outcome (List A × List ℕ))
-      {a : A} {parts : List A} {mid rest : List ℕ}
-      → one ≡ accepted (a, mid)
-      → others mid ≡ accepted (parts, rest)
-      → readMore one others ≡ accepted (a ∷ parts, rest)
-  more-read one others at-first at-others = andThen-goes-on one _ at-first ∙ andThen-goes-on _ _ at-others
+module _ {A B C : Type 0} where
+  pub andThen-assoc : (o : Outcome A) (f : A → Outcome B) (g : B → Outcome C)
+      → andThen (andThen o f) g ≡ andThen o (λ a. andThen (f a) g)
+  unfolding andThen
+  andThen-assoc (accepted a) f g = refl
+  andThen-assoc (refused k) f g = refl

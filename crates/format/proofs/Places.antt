@@ -10,26 +10,14 @@ use Rattle.model.specs.Program.{Line, Program, linesOf}
 use Rattle.format.specs.Outcome.Outcome.{accepted}
 use Rattle.format.specs.Format.{sizePR, sizeTH, sizeIN, readLine, readProgram}
 use Rattle.format.specs.Spelling.{spellLine, spellLines, spellThread, spellThreads, spell}
-use Rattle.format.specs.Spelling.{LineWithin, ThreadWithin, Within, All}
-use Rattle.format.specs.Spelling.All.{none, more}
+use Rattle.format.specs.Spelling.{LineWithin, ThreadWithin, Within}
+use Rattle.format.proofs.AllLaws.{all-at}
 use Rattle.format.specs.Layout.{threadSize, startsFrom, startOf}
 use Rattle.format.proofs.SpellingLength.{length-spellLine, length-spellThread}
 use Rattle.format.proofs.AcceptedLine.{FieldsRead, line-read}
 use Rattle.format.proofs.SpelledLine.{read-line}
-use Rattle.format.proofs.RecordLaws.{front-is-whole}
+use Rattle.format.proofs.FrontLaws.{front-is-whole, drop-past-front}
 use Rattle.format.proofs.RoundTrip.{accepted-is-spelling}
-
--- What holds of every element holds of each.
-pub all-at : {A : Type 0} {P : A → Type 0} {l : List A} → All P l → (i : ℕ) (d : A) → i < length l → P (getD l i d)
-all-at none i d h = absurd (omega arith)
-all-at (more p ps) zero d h = p
-all-at (more p ps) (suc i) d h = all-at ps i d (omega arith)
-
--- What stands after a part of the bytes: going on by its length.
-drop-on : (bytes front rest : List ℕ) (at size : ℕ) → drop at bytes ≡ front ++ rest → length front ≡ size
-    → drop (at + size) bytes ≡ rest
-drop-on bytes front rest at size e sized =
-    sym (drop-drop size at bytes) ∙ ap (drop size) e ∙ drop-at front rest size sized
 
 -- Line i of spelled lines, and the lines after it.
 lines-from : (lines : List Line) (i : ℕ) (d : Line) (rest : List ℕ) → i < length lines
@@ -71,7 +59,7 @@ threads-stand bytes at (lines ∷ threads) rest zero e h =
 threads-stand bytes at (lines ∷ threads) rest (suc t) e h =
     let here = e ∙ append-assoc (spellThread lines) (spellThreads threads) rest in
     threads-stand bytes (at + threadSize lines) threads rest t
-    (drop-on bytes (spellThread lines) (spellThreads threads ++ rest) at (threadSize lines) here (length-spellThread lines))
+    (drop-past-front bytes (spellThread lines) (spellThreads threads ++ rest) at (threadSize lines) here (length-spellThread lines))
     (omega arith)
 
 -- A line of a thread of n lines stands at a byte: it is whole, it is spelled there, and reading it there gives it.
@@ -96,7 +84,7 @@ line-stands-at : (L K n : ℕ) → minValues ≤ K → K ≤ maxValues → (byte
     → LineWithin L K n line → drop at bytes ≡ spellLine line ++ rest → LineStands L K n bytes at line
 line-stands-at L K n some-values few-values bytes at line rest within e =
     let sized = length-spellLine line in
-    let spelled = e ∙ ap (λ l. spellLine line ++ l) (sym (drop-on bytes (spellLine line) rest at sizeIN e sized)) in
+    let spelled = e ∙ ap (λ l. spellLine line ++ l) (sym (drop-past-front bytes (spellLine line) rest at sizeIN e sized)) in
     let read = ap (readLine L K n) spelled ∙ read-line L K n some-values few-values line (drop (at + sizeIN) bytes) within in
     let whole = front-is-whole (spellLine line) rest sizeIN e sized in
     record {

@@ -1,11 +1,9 @@
 -- A record that is due: what its check gives, and where it holds.
 use Prim.Native.Nat.{ℕ, _≤_}
 use mathlib.Core.Bool.{Bool, true, false, _&&_, false≢true, and-eq-true-iff}
-use mathlib.Core.List.{List, [], _∷_, _++_, append-assoc}
-use mathlib.Core.Path.{_≡_, refl, sym, ap, ap₂, _∙_}
-use native.Mathlib.Omega.{arith}
-use lib.ListN.{length, drop, length-append}
-use lib.Seq.{drop-at}
+use mathlib.Core.List.{List, [], _∷_, _++_}
+use mathlib.Core.Path.{_≡_, refl, ap₂}
+use lib.ListN.{length, drop}
 use lib.Dec.{eqb, leb}
 use borrow.Author.Tests.{leb-true, le-leb, eqb-true, eq-eqb}
 use Rattle.format.specs.Format.{startsWith, isRecord}
@@ -39,16 +37,3 @@ unfolding isRecord
 record-found mark size rest whole =
     and-eq-true-iff (leb size (length (mark ++ rest))) (startsWith mark (mark ++ rest)) .1
     (le-leb size (length (mark ++ rest)) whole, mark-found mark rest)
-
--- Bytes that begin with others have at least as many, and drop gives what follows.
-pub front-is-whole : (front rest : List ℕ) {bytes : List ℕ} (size : ℕ)
-    → bytes ≡ front ++ rest → length front ≡ size → size ≤ length bytes
-front-is-whole front rest size e sized = omega (arith, ap length e, length-append front rest)
-
-pub after-front : (front rest : List ℕ) {bytes : List ℕ} (size : ℕ)
-    → bytes ≡ front ++ rest → length front ≡ size → rest ≡ drop size bytes
-after-front front rest size e sized = sym (ap (drop size) e ∙ drop-at front rest size sized)
-
-pub fronts-join : (front next rest : List ℕ) {bytes mid : List ℕ}
-    → bytes ≡ front ++ mid → mid ≡ next ++ rest → bytes ≡ front ++ next ++ rest
-fronts-join front next rest e f = e ∙ ap (λ l. front ++ l) f ∙ sym (append-assoc front next rest)

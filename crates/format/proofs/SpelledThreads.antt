@@ -11,7 +11,8 @@ use Rattle.format.specs.Outcome.Outcome.{accepted}
 use Rattle.format.specs.Format.{markTH, sizeTH, readLine, readLines, readThread, readThreads}
 use Rattle.format.specs.Spelling.{spellLine, spellLines, spellThread, spellThreads, LineWithin, ThreadWithin, All}
 use Rattle.format.specs.Spelling.All.{none, more}
-use Rattle.format.proofs.OutcomeLaws.{check-passes, more-read}
+use Rattle.format.proofs.OutcomeLaws.{check-passes}
+use Rattle.format.proofs.PartsLaws.{more-read}
 use Rattle.format.proofs.RecordLaws.{record-found}
 use Rattle.format.proofs.SpelledLine.{read-line}
 
