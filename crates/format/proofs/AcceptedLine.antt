@@ -1,21 +1,20 @@
 -- An accepted line: its record is the spelling of a line within the limits.
-use Prim.Native.Nat.{ℕ, suc, _≤_, _<_}
-use mathlib.Core.Bool.{Bool, true, false, cond, _&&_, and-eq-true-iff}
-use mathlib.Core.List.{List, [], _∷_, _++_}
+use Prim.Native.Nat.{ℕ, _≤_}
+use mathlib.Core.Bool.{true, _&&_, and-eq-true-iff}
+use mathlib.Core.List.{List, _++_}
 use mathlib.Core.Path.{_≡_, refl, sym, ap, subst, _∙_}
 use native.Mathlib.Omega.{arith}
 use lib.ListN.{length, getD, drop}
 use lib.Seq.{drop-cons}
-use lib.Dec.{ltb, eqb}
+use lib.Dec.{ltb}
 use borrow.Author.Tests.{ltb-true}
 use Rattle.limits.specs.Limits.{registers}
-use Rattle.model.specs.Program.{Operand, Line}
-use Rattle.format.specs.Outcome.{Outcome, check, andThen}
-use Rattle.format.specs.Outcome.Outcome.{refused, accepted}
-use Rattle.format.specs.Ops.{Op, isOp, opAt}
-use Rattle.format.specs.Format.{markIN, sizeIN, isRecord, operand, usesTarget, zeroUnlessUsed, whenUsed, isOperand}
+use Rattle.model.specs.Program.{Line}
+use Rattle.format.specs.Outcome.Outcome.{accepted}
+use Rattle.format.specs.Ops.{isOp, opAt}
+use Rattle.format.specs.Format.{markIN, sizeIN, isRecord, isOperand, operand, whenUsed, zeroUnlessUsed, usesTarget}
 use Rattle.format.specs.Format.{isRegAndRest, isTarget, areOperands, fieldsToLine, readLine}
-use Rattle.format.specs.Spelling.{operandByte, lineRecord, spellLine, OperandWithin, LineWithin}
+use Rattle.format.specs.Spelling.{lineRecord, spellLine, LineWithin}
 use Rattle.format.proofs.OutcomeLaws.{accepted-injective, check-accepted, andThen-accepted}
 use Rattle.format.proofs.RecordLaws.{record-stands}
 use Rattle.format.proofs.FieldLaws.{operand-within, field-kept, operand-kept, when-used}
@@ -43,11 +42,12 @@ fields-read L K n op reg target a b e =
     let six = check-accepted 6 _ _ (five .1) in
     let seven = check-accepted 7 _ _ (six .1) in
     let eight = check-accepted 8 _ _ (seven .1) in
+    let zero-reg = zeroUnlessUsed (o .reg) reg in
     let zero-target = zeroUnlessUsed (usesTarget (o .target)) target in
     let zero-a = zeroUnlessUsed (o .a) a in
     let zero-b = zeroUnlessUsed (o .b) b in
     let from-reg = and-eq-true-iff (whenUsed (o .reg) (ltb reg registers)) _ .0 (six .0) in
-    let from-zero = and-eq-true-iff (zeroUnlessUsed (o .reg) reg) (zero-target && (zero-a && zero-b)) .0 (from-reg .1) in
+    let from-zero = and-eq-true-iff zero-reg (zero-target && (zero-a && zero-b)) .0 (from-reg .1) in
     let from-target = and-eq-true-iff zero-target (zero-a && zero-b) .0 (from-zero .1) in
     let from-a = and-eq-true-iff zero-a zero-b .0 (from-target .1) in
     let used = and-eq-true-iff (whenUsed (o .a) (isOperand K a)) (whenUsed (o .b) (isOperand K b)) .0 (eight .0) in

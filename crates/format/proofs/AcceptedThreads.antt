@@ -1,16 +1,16 @@
 -- Accepted lines and threads: their records are the spellings of threads within the limits.
 use Prim.Native.Nat.{ℕ, zero, suc, _+_, _*_, _≤_}
-use mathlib.Core.Bool.{Bool, true}
+use mathlib.Core.Bool.{true}
 use mathlib.Core.List.{List, [], _∷_, _++_}
 use mathlib.Core.Path.{_≡_, refl, sym, ap, subst, _∙_}
 use native.Mathlib.Omega.{arith}
-use lib.ListN.{length, getD, drop, length-append}
-use lib.Seq.{drop-cons, drop-at}
+use lib.ListN.{length, getD, drop}
+use lib.Seq.{drop-cons}
 use borrow.Author.Tests.{leb-true}
 use Rattle.limits.specs.Limits.{maxLines}
 use Rattle.model.specs.Program.{Line}
 use Rattle.format.specs.Outcome.Outcome.{accepted}
-use Rattle.format.specs.Format.{markTH, sizeTH, sizeIN, isRecord, readLine, readLines, readThread, readThreads}
+use Rattle.format.specs.Format.{markTH, sizeTH, sizeIN, isRecord, readLines, readThread, readThreads}
 use Rattle.format.specs.Spelling.{spellLine, spellLines, spellThread, spellThreads, LineWithin, ThreadWithin}
 use Rattle.format.specs.Spelling.{All}
 use Rattle.format.specs.Spelling.All.{none, more}
@@ -18,7 +18,7 @@ use Rattle.format.proofs.OutcomeLaws.{accepted-injective, check-accepte
 use Rattle.format.proofs.PartsLaws.{more-accepted}
 use Rattle.format.proofs.RecordLaws.{record-stands}
 use Rattle.format.proofs.FrontLaws.{front-is-whole, after-front, fronts-join}
-use Rattle.format.proofs.SpellingLength.{length-spellLine, length-spellLines, length-spellThread}
+use Rattle.format.proofs.SpellingLength.{length-spellLines, length-spellThread}
 use Rattle.format.proofs.AcceptedLine.{LineRead, line-read}
 
 -- What a number of accepted lines gives.

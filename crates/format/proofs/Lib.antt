@@ -14,3 +14,5 @@ pub mod SpelledThreads
 pub mod RoundTrip
 pub mod Refusals
 pub mod Places
+pub mod CursorLaws
+pub mod StartLaws

@@ -1,11 +1,10 @@
 -- The numbers of refusals: 3 to 8 for a line or a thread, 1 to 9 for the whole input.
 use Prim.Native.Nat.{ℕ, zero, suc, _≤_}
 use mathlib.Core.Bool.{Bool, true, false}
-use mathlib.Core.List.{List, [], _∷_}
+use mathlib.Core.List.{List}
 use mathlib.Core.Path.{_≡_, subst}
 use native.Mathlib.Omega.{arith}
 use lib.ListN.{getD, drop}
-use Rattle.model.specs.Program.{Line, Program}
 use Rattle.format.specs.Outcome.{Outcome, check, andThen}
 use Rattle.format.specs.Outcome.Outcome.{refused, accepted}
 use Rattle.format.specs.Format.{sizePR, sizeTH, fieldsToLine, readLine, readLines, readThread, readThreads}

@@ -1,14 +1,12 @@
 -- The rows of the op table, each against the line that it makes: its spelling, and when it is within the limits.
 use Prim.Native.Nat.{ℕ, zero, suc, _≤_, _<_}
-use mathlib.Core.Bool.{Bool, true, false, cond, _&&_, false≢true, and-eq-true-iff}
-use mathlib.Core.List.{List, [], _∷_}
+use mathlib.Core.Bool.{true, cond, false≢true, and-eq-true-iff}
 use mathlib.Core.Path.{_≡_, refl}
 use native.Mathlib.Omega.{arith}
-use lib.ListN.{length, getD}
 use lib.Dec.{leb}
 use borrow.Author.Tests.{ltb-true, leb-true}
 use Rattle.limits.specs.Limits.{registers}
-use Rattle.model.specs.Program.{Operand, Line}
+use Rattle.model.specs.Program.{Operand}
 use Rattle.format.specs.Ops.{sumOp, opTable, isOp, opAt}
 use Rattle.format.specs.Format.{usesTarget, isTarget}
 use Rattle.format.specs.Spelling.{operandByte, lineRecord, spellLine, OperandWithin, LineWithin}

@@ -1,21 +1,19 @@
 -- The reading of a line's spelling gives that line.
-use Prim.Native.Nat.{ℕ, _≤_, _<_}
-use mathlib.Core.Bool.{Bool, true, false, cond, _&&_, and-eq-true-iff}
-use mathlib.Core.List.{List, [], _∷_, _++_}
+use Prim.Native.Nat.{ℕ, _≤_}
+use mathlib.Core.Bool.{true, _&&_, and-eq-true-iff}
+use mathlib.Core.List.{List, _∷_, _++_}
 use mathlib.Core.Path.{_≡_, refl, ap₂, _∙_}
 use native.Mathlib.Omega.{arith}
-use lib.ListN.{length, getD, drop}
 use lib.Dec.{ltb}
 use borrow.Author.Tests.{lt-ltb, le-leb}
 use Rattle.limits.specs.Limits.{registers, minValues, maxValues}
 use Rattle.model.specs.Program.{Operand, Line}
-use Rattle.model.specs.Program.Operand.{constant, register}
+use Rattle.model.specs.Program.Operand.{constant}
 use Rattle.model.specs.Program.Line.{sum, equal, less, jump, write, read, fadd, cas, wait, bcas}
-use Rattle.format.specs.Outcome.{Outcome, check, andThen}
-use Rattle.format.specs.Outcome.Outcome.{refused, accepted}
-use Rattle.format.specs.Ops.{Op, isOp, opAt, opTable, sumOp}
-use Rattle.format.specs.Format.{markIN, sizeIN, isRecord, operand, usesTarget, zeroUnlessUsed, whenUsed, isOperand}
-use Rattle.format.specs.Format.{isRegAndRest, isTarget, areOperands, fieldsToLine, readLine, firstRegister}
+use Rattle.format.specs.Outcome.Outcome.{accepted}
+use Rattle.format.specs.Ops.{isOp, opAt, opTable, sumOp}
+use Rattle.format.specs.Format.{markIN, sizeIN, operand, usesTarget, zeroUnlessUsed, whenUsed}
+use Rattle.format.specs.Format.{isRegAndRest, isTarget, areOperands, fieldsToLine, readLine}
 use Rattle.format.specs.Spelling.{operandByte, lineRecord, spellLine, OperandWithin, LineWithin}
 use Rattle.format.proofs.OutcomeLaws.{check-passes, andThen-goes-on}
 use Rattle.format.proofs.RecordLaws.{record-found}

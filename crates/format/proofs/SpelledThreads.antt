@@ -1,14 +1,14 @@
 -- The reading of the spelling of lines and of threads gives these.
 use Prim.Native.Nat.{ℕ, _≤_}
 use mathlib.Core.List.{List, [], _∷_, _++_, append-assoc}
-use mathlib.Core.Path.{_≡_, refl, ap, _∙_}
+use mathlib.Core.Path.{_≡_, refl, _∙_}
 use native.Mathlib.Omega.{arith}
 use lib.ListN.{length}
 use borrow.Author.Tests.{le-leb}
 use Rattle.limits.specs.Limits.{minValues, maxValues, maxLines}
 use Rattle.model.specs.Program.{Line}
 use Rattle.format.specs.Outcome.Outcome.{accepted}
-use Rattle.format.specs.Format.{markTH, sizeTH, readLine, readLines, readThread, readThreads}
+use Rattle.format.specs.Format.{markTH, sizeTH, readLines, readThread, readThreads}
 use Rattle.format.specs.Spelling.{spellLine, spellLines, spellThread, spellThreads, LineWithin, ThreadWithin, All}
 use Rattle.format.specs.Spelling.All.{none, more}
 use Rattle.format.proofs.OutcomeLaws.{check-passes}

@@ -1,13 +1,13 @@
 -- How many bytes a spelling has.
-use Prim.Native.Nat.{ℕ, _+_, _*_}
-use mathlib.Core.List.{List, [], _∷_, _++_}
+use Prim.Native.Nat.{_+_, _*_}
+use mathlib.Core.List.{List, [], _∷_}
 use mathlib.Core.Path.{_≡_, refl}
 use native.Mathlib.Omega.{arith}
 use lib.ListN.{length, length-append}
-use Rattle.model.specs.Program.{Line, Program}
+use Rattle.model.specs.Program.{Line}
 use Rattle.model.specs.Program.Line.{sum, equal, less, jump, write, read, fadd, cas, wait, bcas}
-use Rattle.format.specs.Format.{sizePR, sizeTH, sizeIN}
-use Rattle.format.specs.Spelling.{spellLine, spellLines, spellThread, spellThreads, spell}
+use Rattle.format.specs.Format.{sizeTH, sizeIN}
+use Rattle.format.specs.Spelling.{spellLine, spellLines, spellThread}
 
 pub length-spellLine : (line : Line) → length (spellLine line) ≡ sizeIN
 unfolding spellLine

@@ -1,4 +1,4 @@
--- Where the lines of each thread stand in the program bytes: document 01, section "Program bytes", in the order of its records.
+-- Where the lines of each thread stand in the program bytes: document 01, section "Program bytes".
 use Prim.Native.Nat.{ℕ, _+_, _*_}
 use mathlib.Core.List.{List, [], _∷_}
 use lib.ListN.{length, getD}
@@ -9,8 +9,8 @@ use Rattle.format.specs.Format.{sizePR, sizeTH, sizeIN}
 abbrev pub threadSize : List Line → ℕ
 threadSize lines = sizeTH + length lines * sizeIN
 
--- "There are T of them, each followed by its n lines": the bytes at which the lines of each thread start, when the first TH
--- record stands at byte `at`.
+-- "There are T of them, each followed by its n lines": the byte at which the lines of each thread start, when the first
+-- TH record stands at byte `at`.
 unfoldable pub startsFrom : ℕ → List (List Line) → List ℕ
 startsFrom at [] = []
 startsFrom at (lines ∷ threads) = (at + sizeTH) ∷ startsFrom (at + threadSize lines) threads
