@@ -12,8 +12,8 @@ use Rattle.limits.specs.Limits.{registers}
 use Rattle.model.specs.Program.{Line}
 use Rattle.format.specs.Outcome.Outcome.{accepted}
 use Rattle.format.specs.Ops.{isOp, opAt}
-use Rattle.format.specs.Format.{markIN, sizeIN, isRecord, isOperand, operand, whenUsed, zeroUnlessUsed, usesTarget}
-use Rattle.format.specs.Format.{isRegAndRest, isTarget, areOperands, fieldsToLine, readLine}
+use Rattle.format.specs.Format.{markIN, sizeIN, isRecord, isOperand, operand, whenUsed, zeroUnlessUsed}
+use Rattle.format.specs.Format.{usesTarget, isRegAndRest, isTarget, areOperands, fieldsToLine, readLine}
 use Rattle.format.specs.Spelling.{lineRecord, spellLine, LineWithin}
 use Rattle.format.proofs.OutcomeLaws.{accepted-injective, check-accepted, andThen-accepted}
 use Rattle.format.proofs.RecordLaws.{record-stands}

@@ -59,7 +59,8 @@ pub lines-read : (L K n count : ℕ) (bytes : List ℕ) {got : List Line × List
     → readLines L K n count bytes ≡ accepted got → LinesRead L K n count bytes (got .0) (got .1)
 unfolding readLines spellLines
 lines-read L K n zero bytes e =
-    subst (λ got. LinesRead L K n zero bytes (got .0) (got .1)) (accepted-injective e) (lines-placed [] refl none refl)
+    subst (λ got. LinesRead L K n zero bytes (got .0) (got .1)) (accepted-injective e)
+    (lines-placed [] refl none refl)
 lines-read L K n (suc count) bytes e =
     let (first, others, at-first, at-others, joined) = more-accepted _ _ e in
     subst (λ got. LinesRead L K n (suc count) bytes (got .0) (got .1)) joined
@@ -139,7 +140,8 @@ pub threads-read : (L K count : ℕ) (bytes : List ℕ) {got : List (List Line) 
     → readThreads L K count bytes ≡ accepted got → ThreadsRead L K count bytes (got .0) (got .1)
 unfolding readThreads spellThreads
 threads-read L K zero bytes e =
-    subst (λ got. ThreadsRead L K zero bytes (got .0) (got .1)) (accepted-injective e) (threads-placed [] refl none refl)
+    subst (λ got. ThreadsRead L K zero bytes (got .0) (got .1)) (accepted-injective e)
+    (threads-placed [] refl none refl)
 threads-read L K (suc count) bytes e =
     let (first, others, at-first, at-others, joined) = more-accepted _ _ e in
     subst (λ got. ThreadsRead L K (suc count) bytes (got .0) (got .1)) joined

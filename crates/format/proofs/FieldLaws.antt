@@ -34,7 +34,7 @@ pub operand-within : (K x : ℕ) → isOperand K x ≡ true → OperandWithin K 
 unfolding isOperand operand
 operand-within K x test = operand-by-case K x (ltb x K) refl test .1
 
--- The byte of an operand within the limits is in range, and it is read as that operand: no constant reaches the registers.
+-- The byte of an operand within the limits is in range, and it is read as that operand: constants end below registers.
 pub operand-byte-in-range : (K : ℕ) (o : Operand) → OperandWithin K o → isOperand K (operandByte o) ≡ true
 unfolding isOperand operandByte OperandWithin
 operand-byte-in-range K (constant v) h = rw (lt-ltb v K h)

@@ -61,8 +61,9 @@ threads-stand bytes at (lines ∷ threads) rest zero e h =
     }
 threads-stand bytes at (lines ∷ threads) rest (suc t) e h =
     let here = e ∙ append-assoc (spellThread lines) (spellThreads threads) rest in
+    let others = spellThreads threads ++ rest in
     let sized = length-spellThread lines in
-    let after = drop-past-front bytes (spellThread lines) (spellThreads threads ++ rest) at (threadSize lines) here sized in
+    let after = drop-past-front bytes (spellThread lines) others at (threadSize lines) here sized in
     threads-stand bytes (at + threadSize lines) threads rest t after (omega arith)
 
 -- A line of a thread of n lines stands at a byte: it is whole, it is spelled there, and reading it there gives it.

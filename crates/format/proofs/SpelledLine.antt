@@ -76,16 +76,16 @@ module _ (L K n : ℕ) (some-values : minValues ≤ K) (few-values : K ≤ maxVa
   pub read-line : (line : Line) (rest : List ℕ) → LineWithin L K n line
       → readLine L K n (spellLine line ++ rest) ≡ accepted (line, rest)
   unfolding isOp opAt opTable sumOp isTarget usesTarget whenUsed zeroUnlessUsed operandByte spellLine LineWithin
-  read-line (sum r a b) rest h = row-read 1 r 0 a b rest refl (lt-ltb r registers (h .0)) refl refl (h .1) (h .2)
-  read-line (equal r a b) rest h = row-read 2 r 0 a b rest refl (lt-ltb r registers (h .0)) refl refl (h .1) (h .2)
-  read-line (less r a b) rest h = row-read 3 r 0 a b rest refl (lt-ltb r registers (h .0)) refl refl (h .1) (h .2)
-  read-line (jump l a) rest h = row-read 4 0 l a unused rest refl refl refl (le-leb l n (h .0)) (h .1) unused-within
-  read-line (write x a) rest h = row-read 5 0 x a unused rest refl refl refl (lt-ltb x L (h .0)) (h .1) unused-within
+  read-line (sum r a b) rest h = row-read 1 r 0 a b rest refl (lt-ltb r _ (h .0)) refl refl (h .1) (h .2)
+  read-line (equal r a b) rest h = row-read 2 r 0 a b rest refl (lt-ltb r _ (h .0)) refl refl (h .1) (h .2)
+  read-line (less r a b) rest h = row-read 3 r 0 a b rest refl (lt-ltb r _ (h .0)) refl refl (h .1) (h .2)
+  read-line (jump l a) rest h = row-read 4 0 l a unused rest refl refl refl (le-leb l _ (h .0)) (h .1) unused-within
+  read-line (write x a) rest h = row-read 5 0 x a unused rest refl refl refl (lt-ltb x _ (h .0)) (h .1) unused-within
   read-line (read r x) rest h =
-      row-read 6 r x unused unused rest refl (lt-ltb r registers (h .0)) refl (lt-ltb x L (h .1)) unused-within unused-within
+      row-read 6 r x unused unused rest refl (lt-ltb r _ (h .0)) refl (lt-ltb x _ (h .1)) unused-within unused-within
   read-line (fadd r x a) rest h =
-      row-read 7 r x a unused rest refl (lt-ltb r registers (h .0)) refl (lt-ltb x L (h .1)) (h .2) unused-within
+      row-read 7 r x a unused rest refl (lt-ltb r _ (h .0)) refl (lt-ltb x _ (h .1)) (h .2) unused-within
   read-line (cas r x a b) rest h =
-      row-read 8 r x a b rest refl (lt-ltb r registers (h .0)) refl (lt-ltb x L (h .1)) (h .2) (h .3)
-  read-line (wait x a) rest h = row-read 9 0 x a unused rest refl refl refl (lt-ltb x L (h .0)) (h .1) unused-within
-  read-line (bcas x a b) rest h = row-read 10 0 x a b rest refl refl refl (lt-ltb x L (h .0)) (h .1) (h .2)
+      row-read 8 r x a b rest refl (lt-ltb r _ (h .0)) refl (lt-ltb x _ (h .1)) (h .2) (h .3)
+  read-line (wait x a) rest h = row-read 9 0 x a unused rest refl refl refl (lt-ltb x _ (h .0)) (h .1) unused-within
+  read-line (bcas x a b) rest h = row-read 10 0 x a b rest refl refl refl (lt-ltb x _ (h .0)) (h .1) (h .2)
