@@ -1,6 +1,7 @@
 -- What the types of the code stand for, and each answer of the reader in terms of Format.
 use Prim.Native.Nat.{ℕ}
 use mathlib.Core.Bool.{Bool}
+use mathlib.Core.Path.{_≡_}
 use mathlib.Core.List.{List, [], _∷_, map}
 use lib.ListN.{length, getD, replicate}
 use lib.Seq.{sets}
@@ -12,7 +13,7 @@ use Rattle.format.specs.Outcome.{Outcome}
 use Rattle.format.specs.Outcome.Outcome.{refused, accepted}
 use Rattle.format.specs.Ops.{Op, Target as OpTarget}
 use Rattle.format.specs.Ops.Target.{noTarget, toLocation, toLine}
-use Rattle.format.specs.Format.{sizePR, readProgram}
+use Rattle.format.specs.Format.{sizePR, readProgram, programOf}
 use Rattle.format.specs.Layout.{startsFrom}
 use Rattle.format.specs.declared.Check.{Check}
 use Rattle.format.specs.declared.Check.the-variants.{Passed, Failed}
@@ -22,6 +23,8 @@ use Rattle.format.specs.declared.Operand.{Operand}
 use Rattle.format.specs.declared.Operand.the-variants.{Constant, Register}
 use Rattle.format.specs.declared.Line.{Line}
 use Rattle.format.specs.declared.Line.the-variants.{Sum, Equal, Less, Jump, Write, Read, Fadd, Cas, Wait, Bcas}
+use Rattle.format.specs.declared.threads.Thread.{Thread}
+use Rattle.format.specs.declared.threads.Thread.the-variants.{Lines, Faulty}
 use Rattle.format.specs.declared.checks.Fields.{Fields}
 use Rattle.format.specs.declared.checks.Row.{Row}
 use Rattle.format.specs.declared.checks.Target.{Target}
@@ -50,9 +53,17 @@ headerOf p =
     }
 
 -- The answer of the reader: the number of the first failed check, or the program's header.
+abbrev pub refusal : ℕ → Reading
+refusal number = record { check = Failed number; header = noHeader }
+
 unfoldable pub reading : Outcome Program → Reading
-reading (refused number) = record { check = Failed number; header = noHeader }
+reading (refused number) = refusal number
 reading (accepted p) = record { check = Passed; header = headerOf p }
+
+-- An accepted input with its header: what line_at asks of its callers.
+pub record Accepted (bytes : List ℕ) (h : Header) : Type 0 where
+  pub program : readProgram bytes ≡ accepted (programOf bytes)
+  pub header : h ≡ headerOf (programOf bytes)
 
 -- The operand and the line of the model that the code's stand for.
 unfoldable pub operandMeans : Operand → ModelOperand
@@ -104,3 +115,8 @@ rowOf o = makeRow (o .reg) (targetOf (o .target)) (o .a) (o .b)
 unfoldable pub checkOf : {A : Type 0} → Outcome A → Check
 checkOf (refused number) = Failed number
 checkOf (accepted a) = Passed
+
+-- What reading a thread finds: its number of lines, or the number of the check that failed.
+unfoldable pub threadOf : Outcome (List ModelLine × List ℕ) → Thread
+threadOf (refused number) = Faulty number
+threadOf (accepted got) = Lines (length (got .0))

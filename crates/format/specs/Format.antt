@@ -137,3 +137,11 @@ readProgram bytes =
     (andThen
     (readThreads (getD bytes 3 0) (getD bytes 4 0) (getD bytes 2 0) (drop sizePR bytes))
     (endsAfter (getD bytes 3 0) (getD bytes 4 0))))
+
+-- The program that an accepted input spells. (A refused input stands for no program, and this says nothing of it.)
+unfoldable pub programIn : Outcome Program → Program
+programIn (refused number) = record { threads = []; locations = 0; values = 0 }
+programIn (accepted p) = p
+
+abbrev pub programOf : List ℕ → Program
+programOf bytes = programIn (readProgram bytes)

@@ -11,7 +11,9 @@ use threads::read_threads;
 ghost use mathlib.Core.Path.{_≡_};
 ghost use Prim.Native.Nat.{_<_};
 ghost use lib.ListN.{length, getD};
-ghost use Rattle.format.specs.Format.{readProgram};
+ghost use Rattle.model.specs.Program.{Line as ModelLine, linesOf};
+ghost use Rattle.format.specs.Format.{areInRange, readProgram, programOf};
+ghost use Rattle.format.specs.Answer.{noHeader, refusal, reading, Accepted, lineMeans};
 
 // What a check says: passed, or the number of the check that failed.
 pub enum Check {
@@ -54,7 +56,9 @@ pub enum Line {
 }
 
 // The header of no program.
-pub fn no_header() -> Header {
+fn no_header() -> Header
+    ensures { λ r. ⌜ r ≡ noHeader ⌝ }
+{
     Header {
         threads: 0,
         locations: 0,
@@ -64,18 +68,29 @@ pub fn no_header() -> Header {
     }
 }
 
-pub fn refused(number: u8) -> Reading {
+fn refused(number: u8) -> Reading
+    ensures { λ r. ⌜ r ≡ refusal number ⌝ }
+{
     Reading {
         check: Check::Failed(number),
         header: no_header(),
     }
 }
 
-fn in_range(t: u8, l: u8, k: u8) -> bool {
-    if t < 1 || 8 < t {
+// Check 2.
+fn are_in_range(t: u8, l: u8, k: u8) -> bool
+    ensures { λ r. ⌜ r ≡ areInRange t l k ⌝ }
+{
+    if t < 1 {
         return false;
     }
-    if l < 1 || 8 < l {
+    if 8 < t {
+        return false;
+    }
+    if l < 1 {
+        return false;
+    }
+    if 8 < l {
         return false;
     }
     if k < 2 {
@@ -86,7 +101,7 @@ fn in_range(t: u8, l: u8, k: u8) -> bool {
 
 // Reads any input: the first failed check, or the header of the program that the bytes spell.
 pub fn read(bytes: &[u8]) -> Reading
-    
+    ensures { λ r. ⌜ r ≡ reading (readProgram (now (bytes .entry))) ⌝ }
 {
     if !is_record(bytes, 0, b"PR", 5) {
         return refused(1);
@@ -94,7 +109,7 @@ pub fn read(bytes: &[u8]) -> Reading
     let t = bytes[2];
     let l = bytes[3];
     let k = bytes[4];
-    if !in_range(t, l, k) {
+    if !are_in_range(t, l, k) {
         return refused(2);
     }
     read_threads(bytes, t, l, k)
@@ -102,8 +117,11 @@ pub fn read(bytes: &[u8]) -> Reading
 
 // Line i of thread t of an accepted input, with its header.
 pub fn line_at(bytes: &[u8], header: Header, t: usize, i: usize) -> Line
+    requires { ⌜ Accepted (now bytes) header ⌝ }
+    requires { ⌜ (t < length (programOf (now bytes) .threads)) × (i < length (linesOf (programOf (now bytes)) t)) ⌝ }
+    ensures { λ r. ⌜ ((other : ModelLine) → lineMeans r ≡ getD (linesOf (programOf (now (bytes .entry))) t) i other) ⌝ }
 {
     let starts = header.starts;
-    let at = starts[t] + 7 * i;
+    let at = starts[t] + i * 7;
     decode(fields_at(bytes, at), header.values)
 }

@@ -13,91 +13,91 @@ Inv-loop bytes t l k count header₀ next₀ i₀ header next i = ?
 abbrev μ-loop : tie.MeasureT-loop
 μ-loop bytes t l k count header₀ next₀ i₀ header next i = ?
 
--- src/threads.rt:41:22
+-- src/threads.rt:46:22
 no-header-requires : tie.Need-no-header-requires Inv-loop μ-loop
 no-header-requires c κs = search needs
 
--- src/threads.rt:47:5
+-- src/threads.rt:52:5
 loop-holds : tie.Need-loop-holds Inv-loop μ-loop
 loop-holds c = search needs
 
--- src/threads.rt:48:13
+-- src/threads.rt:53:13
 read-thread-requires : tie.Need-read-thread-requires Inv-loop μ-loop
 read-thread-requires c κs = search needs
 
--- src/threads.rt:50:28
+-- src/threads.rt:55:28
 enum-known-thread : tie.Need-enum-known-thread Inv-loop μ-loop
 enum-known-thread c = search needs
 
--- src/threads.rt:51:17
+-- src/threads.rt:56:17
 refused-requires : tie.Need-refused-requires Inv-loop μ-loop
 refused-requires c κs = search needs
 
--- src/threads.rt:51:17
+-- src/threads.rt:56:17
 returns : tie.Need-returns Inv-loop μ-loop
 returns c = search needs
 
--- src/threads.rt:53:27
+-- src/threads.rt:58:27
 enum-known-thread-2 : tie.Need-enum-known-thread-2 Inv-loop μ-loop
 enum-known-thread-2 c = search needs
 
--- src/threads.rt:54:29
+-- src/threads.rt:59:29
 cast-lines : tie.Need-cast-lines Inv-loop μ-loop
 cast-lines c = search needs
 
--- src/threads.rt:55:36
+-- src/threads.rt:60:36
 add-header : tie.Need-add-header Inv-loop μ-loop
 add-header c = search needs
 
--- src/threads.rt:55:17
+-- src/threads.rt:60:17
 mul-header : tie.Need-mul-header Inv-loop μ-loop
 mul-header c = search needs
 
--- src/threads.rt:55:17
+-- src/threads.rt:60:17
 element-write-header : tie.Need-element-write-header Inv-loop μ-loop
 element-write-header c = search needs
 
--- src/threads.rt:56:17
+-- src/threads.rt:61:17
 mul-header-2 : tie.Need-mul-header-2 Inv-loop μ-loop
 mul-header-2 c = search needs
 
--- src/threads.rt:56:17
+-- src/threads.rt:61:17
 element-write-header-2 : tie.Need-element-write-header-2 Inv-loop μ-loop
 element-write-header-2 c = search needs
 
--- src/threads.rt:57:24
+-- src/threads.rt:62:24
 add-next : tie.Need-add-next Inv-loop μ-loop
 add-next c = search needs
 
--- src/threads.rt:57:35
+-- src/threads.rt:62:35
 mul-next : tie.Need-mul-next Inv-loop μ-loop
 mul-next c = search needs
 
--- src/threads.rt:57:24
+-- src/threads.rt:62:24
 add-next-2 : tie.Need-add-next-2 Inv-loop μ-loop
 add-next-2 c = search needs
 
--- src/threads.rt:58:21
+-- src/threads.rt:63:21
 add-i : tie.Need-add-i Inv-loop μ-loop
 add-i c = search needs
 
--- src/threads.rt:47:5
+-- src/threads.rt:52:5
 loop-less : tie.Need-loop-less Inv-loop μ-loop
 loop-less c = search needs
 
--- src/threads.rt:47:5
+-- src/threads.rt:52:5
 loop-again : tie.Need-loop-again Inv-loop μ-loop
 loop-again c = search needs
 
--- src/threads.rt:63:9
+-- src/threads.rt:68:9
 refused-requires-2 : tie.Need-refused-requires-2 Inv-loop μ-loop
 refused-requires-2 c κs = search needs
 
--- src/threads.rt:63:9
+-- src/threads.rt:68:9
 returns-2 : tie.Need-returns-2 Inv-loop μ-loop
 returns-2 c = search needs
 
--- src/threads.rt:37:1
+-- src/threads.rt:41:1
 returns-3 : tie.Need-returns-3 Inv-loop μ-loop
 returns-3 c = search needs
 
