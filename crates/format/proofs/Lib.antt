@@ -16,3 +16,4 @@ pub mod Refusals
 pub mod Places
 pub mod CursorLaws
 pub mod StartLaws
+pub mod LoopLaws
