@@ -89,10 +89,9 @@ thread-read L K bytes {got} e =
     let four = check-accepted _ _ _ (three .1) in
     let lines = got .0 in
     let read = lines-read L K _ _ (drop sizeTH bytes) (four .1) in
-    let spelled : bytes ≡ spellThread lines ++ got .1 =
-    thread-record-stands bytes (three .0)
-    ∙ ap (λ l. markTH ++ getD bytes 2 0 ∷ l) (read .spelled)
-    ∙ ap (λ k. markTH ++ k ∷ (spellLines lines ++ got .1)) (sym (read .counted)) in
+    let after-number = ap (λ l. markTH ++ getD bytes 2 0 ∷ l) (read .spelled) in
+    let number = ap (λ k. markTH ++ k ∷ (spellLines lines ++ got .1)) (sym (read .counted)) in
+    let spelled = thread-record-stands bytes (three .0) ∙ after-number ∙ number in
     record {
       counted = read .counted;
       whole = front-is-whole (spellThread lines) (got .1) _ spelled (length-spellThread lines);

@@ -75,6 +75,6 @@ program-refused-from bytes =
     (wider (readThreads L K T (drop sizePR bytes)) (threads-refused-from L K T (drop sizePR bytes)))
     (λ read. check-from 1 9 _ (omega arith) _ _ tt)))
 
--- "the number of the first failed check" before the search is 1 to 9.
+-- An input that is refused is refused with a number from 1 to 9.
 pub refused-from-one-to-nine : (bytes : List ℕ) {k : ℕ} → readProgram bytes ≡ refused k → (1 ≤ k) × (k ≤ 9)
 refused-from-one-to-nine bytes e = subst (RefusedFrom 1 9) e (program-refused-from bytes)

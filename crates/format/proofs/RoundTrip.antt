@@ -33,12 +33,11 @@ read-spelling p h =
       some-values = h .some-values;
       few-values = h .few-values;
     } in
-    let threads : readThreads L K T bytes ≡ accepted (p .threads, []) =
-    ap (readThreads L K T) (sym (append-nil bytes))
-    ∙ read-threads L K (h .some-values) (h .few-values) (p .threads) [] (h .each) in
+    let to-the-end = ap (readThreads L K T) (sym (append-nil bytes)) in
+    let threads = read-threads L K (h .some-values) (h .few-values) (p .threads) [] (h .each) in
     check-passes _ _ _ (record-found markPR sizePR (T ∷ L ∷ K ∷ bytes) (omega arith))
     ∙ check-passes _ _ _ (are-in-range T L K range)
-    ∙ andThen-goes-on _ _ threads
+    ∙ andThen-goes-on _ _ (to-the-end ∙ threads)
     ∙ check-passes _ _ _ refl
 
 -- A list of length 0 is empty.

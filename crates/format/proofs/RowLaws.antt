@@ -49,7 +49,7 @@ row-spelled reg target a b =
     each-op (RowSpelled reg target a b) (refl, refl, refl, refl, refl, refl, refl, refl, refl, refl)
 
 -- Reads a test of order that is true.
-ruleset in-range = (arith, leb-true)
+ruleset tested = (arith, leb-true)
 
 -- The line of a row is within the limits when its used fields are.
 abbrev pub RowWithin : (L K n reg target : ℕ) (a b : Operand) → ℕ → Type 0
@@ -68,11 +68,11 @@ row-within L K n reg target a b =
       λ r x a b. (r refl, a refl, b refl),
       λ r x a b. (r refl, a refl, b refl),
       λ r x a b. (r refl, a refl, b refl),
-      λ r x a b. (omega in-range, a refl),
-      λ r x a b. (omega in-range, a refl),
-      λ r x a b. (r refl, omega in-range),
-      λ r x a b. (r refl, omega in-range, a refl),
-      λ r x a b. (r refl, omega in-range, a refl, b refl),
-      λ r x a b. (omega in-range, a refl),
-      λ r x a b. (omega in-range, a refl, b refl),
+      λ r x a b. (omega tested, a refl),
+      λ r x a b. (omega tested, a refl),
+      λ r x a b. (r refl, omega tested),
+      λ r x a b. (r refl, omega tested, a refl),
+      λ r x a b. (r refl, omega tested, a refl, b refl),
+      λ r x a b. (omega tested, a refl),
+      λ r x a b. (omega tested, a refl, b refl),
     )

@@ -40,7 +40,7 @@ line-record-found L K n op reg target a b rest e =
     ∙ andThen-goes-on _ _ e
 
 -- Proves that a test of order is true.
-ruleset in-range = (arith, le-leb)
+ruleset passes = (arith, le-leb)
 
 -- What stands for an operand that a line does not use.
 abbrev unused : Operand
@@ -79,15 +79,15 @@ module _ (L K n : ℕ) (some-values : minValues ≤ K) (few-values : K ≤ maxVa
   pub read-line : (line : Line) (rest : List ℕ) → LineWithin L K n line
       → readLine L K n (spellLine line ++ rest) ≡ accepted (line, rest)
   unfolding isOp opAt opTable sumOp isTarget usesTarget whenUsed zeroUnlessUsed operandByte spellLine LineWithin
-  read-line (sum r a b) rest h = row-read 1 r 0 a b rest refl (omega in-range) refl refl (h .1) (h .2)
-  read-line (equal r a b) rest h = row-read 2 r 0 a b rest refl (omega in-range) refl refl (h .1) (h .2)
-  read-line (less r a b) rest h = row-read 3 r 0 a b rest refl (omega in-range) refl refl (h .1) (h .2)
-  read-line (jump l a) rest h = row-read 4 0 l a unused rest refl refl refl (omega in-range) (h .1) unused-within
-  read-line (write x a) rest h = row-read 5 0 x a unused rest refl refl refl (omega in-range) (h .1) unused-within
+  read-line (sum r a b) rest h = row-read 1 r 0 a b rest refl (omega passes) refl refl (h .1) (h .2)
+  read-line (equal r a b) rest h = row-read 2 r 0 a b rest refl (omega passes) refl refl (h .1) (h .2)
+  read-line (less r a b) rest h = row-read 3 r 0 a b rest refl (omega passes) refl refl (h .1) (h .2)
+  read-line (jump l a) rest h = row-read 4 0 l a unused rest refl refl refl (omega passes) (h .1) unused-within
+  read-line (write x a) rest h = row-read 5 0 x a unused rest refl refl refl (omega passes) (h .1) unused-within
   read-line (read r x) rest h =
-      row-read 6 r x unused unused rest refl (omega in-range) refl (omega in-range) unused-within unused-within
+      row-read 6 r x unused unused rest refl (omega passes) refl (omega passes) unused-within unused-within
   read-line (fadd r x a) rest h =
-      row-read 7 r x a unused rest refl (omega in-range) refl (omega in-range) (h .2) unused-within
-  read-line (cas r x a b) rest h = row-read 8 r x a b rest refl (omega in-range) refl (omega in-range) (h .2) (h .3)
-  read-line (wait x a) rest h = row-read 9 0 x a unused rest refl refl refl (omega in-range) (h .1) unused-within
-  read-line (bcas x a b) rest h = row-read 10 0 x a b rest refl refl refl (omega in-range) (h .1) (h .2)
+      row-read 7 r x a unused rest refl (omega passes) refl (omega passes) (h .2) unused-within
+  read-line (cas r x a b) rest h = row-read 8 r x a b rest refl (omega passes) refl (omega passes) (h .2) (h .3)
+  read-line (wait x a) rest h = row-read 9 0 x a unused rest refl refl refl (omega passes) (h .1) unused-within
+  read-line (bcas x a b) rest h = row-read 10 0 x a b rest refl refl refl (omega passes) (h .1) (h .2)
