@@ -38,10 +38,10 @@ pub fields-read : (L K n op reg target a b : ℕ) {line : Line}
 unfolding fieldsToLine isRegAndRest areOperands
 fields-read L K n op reg target a b e =
     let o = opAt op in
-    let five = check-accepted 5 _ _ e in
-    let six = check-accepted 6 _ _ (five .1) in
-    let seven = check-accepted 7 _ _ (six .1) in
-    let eight = check-accepted 8 _ _ (seven .1) in
+    let five = check-accepted _ _ _ e in
+    let six = check-accepted _ _ _ (five .1) in
+    let seven = check-accepted _ _ _ (six .1) in
+    let eight = check-accepted _ _ _ (seven .1) in
     let zero-reg = zeroUnlessUsed (o .reg) reg in
     let zero-target = zeroUnlessUsed (usesTarget (o .target)) target in
     let zero-a = zeroUnlessUsed (o .a) a in
@@ -116,7 +116,7 @@ pub line-read : (L K n : ℕ) (bytes : List ℕ) {got : Line × List ℕ}
     → readLine L K n bytes ≡ accepted got → LineRead L K n bytes (got .0) (got .1)
 unfolding readLine
 line-read L K n bytes e =
-    let three = check-accepted 3 _ _ e in
+    let three = check-accepted _ _ _ e in
     let (line, read, end) = andThen-accepted _ _ (three .1) in
     let fields = fields-read L K n _ _ _ _ _ read in
     subst (λ got. LineRead L K n bytes (got .0) (got .1)) (accepted-injective end)

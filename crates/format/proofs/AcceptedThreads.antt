@@ -85,14 +85,13 @@ pub thread-read : (L K : ℕ) (bytes : List ℕ) {got : List Line × List ℕ}
     → readThread L K bytes ≡ accepted got → ThreadRead L K bytes (got .0) (got .1)
 unfolding readThread spellThread
 thread-read L K bytes {got} e =
-    let three = check-accepted 3 _ _ e in
-    let four = check-accepted 4 _ _ (three .1) in
+    let three = check-accepted _ _ _ e in
+    let four = check-accepted _ _ _ (three .1) in
     let lines = got .0 in
     let read = lines-read L K _ _ (drop sizeTH bytes) (four .1) in
-    let spelled : bytes ≡ spellThread lines ++ got .1 =
-    thread-record-stands bytes (three .0)
-    ∙ ap (λ l. markTH ++ getD bytes 2 0 ∷ l) (read .spelled)
-    ∙ ap (λ k. markTH ++ k ∷ (spellLines lines ++ got .1)) (sym (read .counted)) in
+    let after-number = ap (λ l. markTH ++ getD bytes 2 0 ∷ l) (read .spelled) in
+    let number = ap (λ k. markTH ++ k ∷ (spellLines lines ++ got .1)) (sym (read .counted)) in
+    let spelled = thread-record-stands bytes (three .0) ∙ after-number ∙ number in
     record {
       counted = read .counted;
       whole = front-is-whole (spellThread lines) (got .1) _ spelled (length-spellThread lines);

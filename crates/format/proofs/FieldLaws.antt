@@ -1,8 +1,8 @@
 -- The fields of a line: an operand and its byte, a used field and an unused one.
-use Prim.Native.Nat.{ℕ, _+_, _-_, _≤_}
-use mathlib.Core.Bool.{Bool, true, false, cond, _&&_, _||_, false≢true, and-eq-true-iff, or-eq-true-iff}
+use Prim.Native.Nat.{ℕ, _+_, _≤_, _<_}
+use mathlib.Core.Bool.{Bool, true, false, cond, _&&_, false≢true, and-eq-true-iff, or-eq-true-iff}
 use mathlib.Core.Logic.{Or·inr}
-use mathlib.Core.Path.{_≡_, refl, sym, ap}
+use mathlib.Core.Path.{_≡_, refl, ap}
 use native.Mathlib.Omega.{arith}
 use lib.Dec.{leb, ltb}
 use borrow.Author.Tests.{ltb-true, leb-true, eqb-true, lt-ltb, le-ltb, le-leb}
@@ -12,27 +12,30 @@ use Rattle.model.specs.Program.Operand.{constant, register}
 use Rattle.format.specs.Format.{firstRegister, isOperand, operand, whenUsed, zeroUnlessUsed}
 use Rattle.format.specs.Spelling.{operandByte, OperandWithin}
 
--- The two cases of an operand's byte x: below K or not.
-operand-by-case : (K x : ℕ) (below : Bool) → ltb x K ≡ below
-    → (below || leb firstRegister x && ltb x (firstRegister + registers)) ≡ true
-    → (operandByte (cond below (constant x) (register (x - firstRegister))) ≡ x)
-    × OperandWithin K (cond below (constant x) (register (x - firstRegister)))
-unfolding operandByte OperandWithin
-operand-by-case K x true e test = (refl, ltb-true x K e)
-operand-by-case K x false e test =
-    let both = and-eq-true-iff (leb firstRegister x) (ltb x (firstRegister + registers)) .0 test in
-    let low = leb-true firstRegister x (both .0) in
-    let high = ltb-true x (firstRegister + registers) (both .1) in
-    (omega arith, omega arith)
+-- A byte in range that is no constant is a register's.
+register-in-range : (K x : ℕ) → isOperand K x ≡ true → ltb x K ≡ false
+    → (firstRegister ≤ x) × (x < firstRegister + registers)
+unfolding isOperand
+register-in-range K x test e =
+    let both = and-eq-true-iff (leb firstRegister x) (ltb x (firstRegister + registers)) .0 (rw e at test) in
+    (leb-true firstRegister x (both .0), ltb-true x (firstRegister + registers) (both .1))
 
 -- The operand that a byte in range is: its byte is that one, and it is within the limits.
 pub operand-spelled : (K x : ℕ) → isOperand K x ≡ true → operandByte (operand K x) ≡ x
-unfolding isOperand operand
-operand-spelled K x test = operand-by-case K x (ltb x K) refl test .0
+unfolding operand operandByte
+operand-spelled K x test = go (ltb x K) refl
+  where
+    go : (below : Bool) → ltb x K ≡ below → operandByte (operand K x) ≡ x
+    go true e = rw e refl
+    go false e = rw e (let range = register-in-range K x test e in omega arith)
 
 pub operand-within : (K x : ℕ) → isOperand K x ≡ true → OperandWithin K (operand K x)
-unfolding isOperand operand
-operand-within K x test = operand-by-case K x (ltb x K) refl test .1
+unfolding operand OperandWithin
+operand-within K x test = go (ltb x K) refl
+  where
+    go : (below : Bool) → ltb x K ≡ below → OperandWithin K (operand K x)
+    go true e = rw e (ltb-true x K e)
+    go false e = rw e (let range = register-in-range K x test e in omega arith)
 
 -- The byte of an operand within the limits is in range, and it is read as that operand: constants end below registers.
 pub operand-byte-in-range : (K : ℕ) (o : Operand) → OperandWithin K o → isOperand K (operandByte o) ≡ true
@@ -53,13 +56,13 @@ operand-read K (register r) few h = rw (le-ltb (firstRegister + r) K (omega arit
 pub field-kept : (used : Bool) (x : ℕ) → zeroUnlessUsed used x ≡ true → cond used x 0 ≡ x
 unfolding zeroUnlessUsed
 field-kept true x zero = refl
-field-kept false x zero = sym (eqb-true x 0 zero)
+field-kept false x zero = omega (arith, eqb-true)
 
 pub operand-kept : (used : Bool) (K x : ℕ) → zeroUnlessUsed used x ≡ true → whenUsed used (isOperand K x) ≡ true
     → cond used (operandByte (operand K x)) 0 ≡ x
 unfolding zeroUnlessUsed whenUsed
 operand-kept true K x zero test = operand-spelled K x test
-operand-kept false K x zero test = sym (eqb-true x 0 zero)
+operand-kept false K x zero test = omega (arith, eqb-true)
 
 pub when-used : (used test : Bool) → whenUsed used test ≡ true → used ≡ true → test ≡ true
 unfolding whenUsed

@@ -21,3 +21,4 @@ pub mod Table
 pub mod Fields
 pub mod Loops
 pub mod Filling
+pub mod LoopLaws

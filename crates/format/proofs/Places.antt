@@ -51,10 +51,10 @@ unfolding spellThreads startsFrom spellThread
 threads-stand bytes at [] rest t e h = absurd (omega arith)
 threads-stand bytes at (lines ∷ threads) rest zero e h =
     let here = e ∙ append-assoc (spellThread lines) (spellThreads threads) rest in
-    let two : at + sizeTH - 1 ≡ at + 2 = omega arith in
+    let number : getD (startsFrom at (lines ∷ threads)) zero 0 - 1 ≡ at + 2 = omega arith in
     let room = front-is-whole (spellThread lines) (spellThreads threads ++ rest) _ here (length-spellThread lines) in
     record {
-      counted = ap (λ k. getD bytes k 0) two ∙ sym (getD-drop at bytes 2 0) ∙ ap (λ l. getD l 2 0) here;
+      counted = ap (λ k. getD bytes k 0) number ∙ sym (getD-drop at bytes 2 0) ∙ ap (λ l. getD l 2 0) here;
       whole = omega (arith, length-drop at bytes);
       others = spellThreads threads ++ rest;
       spelled = sym (drop-drop sizeTH at bytes) ∙ ap (drop sizeTH) here;

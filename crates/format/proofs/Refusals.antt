@@ -31,12 +31,12 @@ module _ {A : Type 0} (low high : ℕ) where
 pub line-refused-from : (L K n : ℕ) (bytes : List ℕ) → RefusedFrom 3 8 (readLine L K n bytes)
 unfolding readLine fieldsToLine
 line-refused-from L K n bytes =
-    check-from 3 8 3 (omega arith) _ _
+    check-from 3 8 _ (omega arith) _ _
     (andThen-from 3 8 _ _
-    (check-from 3 8 5 (omega arith) _ _
-    (check-from 3 8 6 (omega arith) _ _
-    (check-from 3 8 7 (omega arith) _ _
-    (check-from 3 8 8 (omega arith) _ _ tt))))
+    (check-from 3 8 _ (omega arith) _ _
+    (check-from 3 8 _ (omega arith) _ _
+    (check-from 3 8 _ (omega arith) _ _
+    (check-from 3 8 _ (omega arith) _ _ tt))))
     (λ line. tt))
 
 pub lines-refused-from : (L K n count : ℕ) (bytes : List ℕ) → RefusedFrom 3 8 (readLines L K n count bytes)
@@ -49,8 +49,8 @@ lines-refused-from L K n (suc count) bytes =
 pub thread-refused-from : (L K : ℕ) (bytes : List ℕ) → RefusedFrom 3 8 (readThread L K bytes)
 unfolding readThread
 thread-refused-from L K bytes =
-    check-from 3 8 3 (omega arith) _ _
-    (check-from 3 8 4 (omega arith) _ _ (lines-refused-from L K _ _ (drop sizeTH bytes)))
+    check-from 3 8 _ (omega arith) _ _
+    (check-from 3 8 _ (omega arith) _ _ (lines-refused-from L K _ _ (drop sizeTH bytes)))
 
 pub threads-refused-from : (L K count : ℕ) (bytes : List ℕ) → RefusedFrom 3 8 (readThreads L K count bytes)
 unfolding readThreads
@@ -69,12 +69,12 @@ program-refused-from bytes =
     let L = getD bytes 3 0 in
     let K = getD bytes 4 0 in
     let T = getD bytes 2 0 in
-    check-from 1 9 1 (omega arith) _ _
-    (check-from 1 9 2 (omega arith) _ _
+    check-from 1 9 _ (omega arith) _ _
+    (check-from 1 9 _ (omega arith) _ _
     (andThen-from 1 9 _ _
     (wider (readThreads L K T (drop sizePR bytes)) (threads-refused-from L K T (drop sizePR bytes)))
-    (λ read. check-from 1 9 9 (omega arith) _ _ tt)))
+    (λ read. check-from 1 9 _ (omega arith) _ _ tt)))
 
--- "the number of the first failed check" before the search is 1 to 9.
+-- An input that is refused is refused with a number from 1 to 9.
 pub refused-from-one-to-nine : (bytes : List ℕ) {k : ℕ} → readProgram bytes ≡ refused k → (1 ≤ k) × (k ≤ 9)
 refused-from-one-to-nine bytes e = subst (RefusedFrom 1 9) e (program-refused-from bytes)

@@ -33,13 +33,12 @@ read-spelling p h =
       some-values = h .some-values;
       few-values = h .few-values;
     } in
-    let threads : readThreads L K T bytes ≡ accepted (p .threads, []) =
-    ap (readThreads L K T) (sym (append-nil bytes))
-    ∙ read-threads L K (h .some-values) (h .few-values) (p .threads) [] (h .each) in
-    check-passes 1 _ _ (record-found markPR sizePR (T ∷ L ∷ K ∷ bytes) (omega arith))
-    ∙ check-passes 2 _ _ (are-in-range T L K range)
-    ∙ andThen-goes-on _ _ threads
-    ∙ check-passes 9 _ _ refl
+    let to-the-end = ap (readThreads L K T) (sym (append-nil bytes)) in
+    let threads = read-threads L K (h .some-values) (h .few-values) (p .threads) [] (h .each) in
+    check-passes _ _ _ (record-found markPR sizePR (T ∷ L ∷ K ∷ bytes) (omega arith))
+    ∙ check-passes _ _ _ (are-in-range T L K range)
+    ∙ andThen-goes-on _ _ (to-the-end ∙ threads)
+    ∙ check-passes _ _ _ refl
 
 -- A list of length 0 is empty.
 empty : (bytes : List ℕ) → length bytes ≡ 0 → bytes ≡ []
@@ -77,10 +76,10 @@ pub accepted-is-spelling : (bytes : List ℕ) (p : Program) → readProgram byte
     → (bytes ≡ spell p) × Within p
 unfolding readProgram endsAfter
 accepted-is-spelling bytes p e =
-    let one = check-accepted 1 _ _ e in
-    let two = check-accepted 2 _ _ (one .1) in
+    let one = check-accepted _ _ _ e in
+    let two = check-accepted _ _ _ (one .1) in
     let (got, at-threads, then) = andThen-accepted _ _ (two .1) in
-    let nine = check-accepted 9 _ _ then in
+    let nine = check-accepted _ _ _ then in
     let read = threads-read _ _ _ _ at-threads in
     subst (λ p. (bytes ≡ spell p) × Within p) (accepted-injective (nine .1))
     (program-spelled bytes (one .0) (in-range _ _ _ (two .0)) read (eqb-true (length (got .1)) 0 (nine .0)))

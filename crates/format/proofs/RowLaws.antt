@@ -4,7 +4,7 @@ use mathlib.Core.Bool.{true, cond, false≢true, and-eq-true-iff}
 use mathlib.Core.Path.{_≡_, refl}
 use native.Mathlib.Omega.{arith}
 use lib.Dec.{leb}
-use borrow.Author.Tests.{ltb-true, leb-true}
+use borrow.Author.Tests.{leb-true}
 use Rattle.limits.specs.Limits.{registers}
 use Rattle.model.specs.Program.{Operand}
 use Rattle.format.specs.Ops.{sumOp, opTable, isOp, opAt}
@@ -48,6 +48,9 @@ unfolding opAt opTable sumOp usesTarget spellLine
 row-spelled reg target a b =
     each-op (RowSpelled reg target a b) (refl, refl, refl, refl, refl, refl, refl, refl, refl, refl)
 
+-- Reads a test of order that is true.
+ruleset tested = (arith, leb-true)
+
 -- The line of a row is within the limits when its used fields are.
 abbrev pub RowWithin : (L K n reg target : ℕ) (a b : Operand) → ℕ → Type 0
 RowWithin L K n reg target a b op =
@@ -60,18 +63,16 @@ RowWithin L K n reg target a b op =
 pub row-within : (L K n reg target : ℕ) (a b : Operand) (op : ℕ) → isOp op ≡ true → RowWithin L K n reg target a b op
 unfolding opAt opTable sumOp isTarget LineWithin
 row-within L K n reg target a b =
-    let line = leb-true target n in
-    let location = ltb-true target L in
     each-op
     (RowWithin L K n reg target a b) (
       λ r x a b. (r refl, a refl, b refl),
       λ r x a b. (r refl, a refl, b refl),
       λ r x a b. (r refl, a refl, b refl),
-      λ r x a b. (line x, a refl),
-      λ r x a b. (location x, a refl),
-      λ r x a b. (r refl, location x),
-      λ r x a b. (r refl, location x, a refl),
-      λ r x a b. (r refl, location x, a refl, b refl),
-      λ r x a b. (location x, a refl),
-      λ r x a b. (location x, a refl, b refl),
+      λ r x a b. (omega tested, a refl),
+      λ r x a b. (omega tested, a refl),
+      λ r x a b. (r refl, omega tested),
+      λ r x a b. (r refl, omega tested, a refl),
+      λ r x a b. (r refl, omega tested, a refl, b refl),
+      λ r x a b. (omega tested, a refl),
+      λ r x a b. (omega tested, a refl, b refl),
     )

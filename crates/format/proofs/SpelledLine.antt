@@ -5,7 +5,7 @@ use mathlib.Core.List.{List, _∷_, _++_}
 use mathlib.Core.Path.{_≡_, refl, ap₂, _∙_}
 use native.Mathlib.Omega.{arith}
 use lib.Dec.{ltb}
-use borrow.Author.Tests.{lt-ltb, le-leb}
+use borrow.Author.Tests.{le-leb}
 use Rattle.limits.specs.Limits.{registers, minValues, maxValues}
 use Rattle.model.specs.Program.{Operand, Line}
 use Rattle.model.specs.Program.Operand.{constant}
@@ -28,7 +28,7 @@ pub fields-accepted : (L K n op reg target a b : ℕ)
     → fieldsToLine L K n op reg target a b ≡ accepted (opAt op .makes reg target (operand K a) (operand K b))
 unfolding fieldsToLine
 fields-accepted L K n op reg target a b five six seven eight =
-    check-passes 5 _ _ five ∙ check-passes 6 _ _ six ∙ check-passes 7 _ _ seven ∙ check-passes 8 _ _ eight
+    check-passes _ _ _ five ∙ check-passes _ _ _ six ∙ check-passes _ _ _ seven ∙ check-passes _ _ _ eight
 
 -- An IN record is read as its fields are.
 pub line-record-found : (L K n op reg target a b : ℕ) (rest : List ℕ) {line : Line}
@@ -36,8 +36,11 @@ pub line-record-found : (L K n op reg target a b : ℕ) (rest : List ℕ) {line 
     → readLine L K n (lineRecord op reg target a b ++ rest) ≡ accepted (line, rest)
 unfolding readLine
 line-record-found L K n op reg target a b rest e =
-    check-passes 3 _ _ (record-found markIN sizeIN (op ∷ reg ∷ target ∷ a ∷ b ∷ rest) (omega arith))
+    check-passes _ _ _ (record-found markIN sizeIN (op ∷ reg ∷ target ∷ a ∷ b ∷ rest) (omega arith))
     ∙ andThen-goes-on _ _ e
+
+-- Proves that a test of order is true.
+ruleset passes = (arith, le-leb)
 
 -- What stands for an operand that a line does not use.
 abbrev unused : Operand
@@ -76,16 +79,15 @@ module _ (L K n : ℕ) (some-values : minValues ≤ K) (few-values : K ≤ maxVa
   pub read-line : (line : Line) (rest : List ℕ) → LineWithin L K n line
       → readLine L K n (spellLine line ++ rest) ≡ accepted (line, rest)
   unfolding isOp opAt opTable sumOp isTarget usesTarget whenUsed zeroUnlessUsed operandByte spellLine LineWithin
-  read-line (sum r a b) rest h = row-read 1 r 0 a b rest refl (lt-ltb r _ (h .0)) refl refl (h .1) (h .2)
-  read-line (equal r a b) rest h = row-read 2 r 0 a b rest refl (lt-ltb r _ (h .0)) refl refl (h .1) (h .2)
-  read-line (less r a b) rest h = row-read 3 r 0 a b rest refl (lt-ltb r _ (h .0)) refl refl (h .1) (h .2)
-  read-line (jump l a) rest h = row-read 4 0 l a unused rest refl refl refl (le-leb l _ (h .0)) (h .1) unused-within
-  read-line (write x a) rest h = row-read 5 0 x a unused rest refl refl refl (lt-ltb x _ (h .0)) (h .1) unused-within
+  read-line (sum r a b) rest h = row-read 1 r 0 a b rest refl (omega passes) refl refl (h .1) (h .2)
+  read-line (equal r a b) rest h = row-read 2 r 0 a b rest refl (omega passes) refl refl (h .1) (h .2)
+  read-line (less r a b) rest h = row-read 3 r 0 a b rest refl (omega passes) refl refl (h .1) (h .2)
+  read-line (jump l a) rest h = row-read 4 0 l a unused rest refl refl refl (omega passes) (h .1) unused-within
+  read-line (write x a) rest h = row-read 5 0 x a unused rest refl refl refl (omega passes) (h .1) unused-within
   read-line (read r x) rest h =
-      row-read 6 r x unused unused rest refl (lt-ltb r _ (h .0)) refl (lt-ltb x _ (h .1)) unused-within unused-within
+      row-read 6 r x unused unused rest refl (omega passes) refl (omega passes) unused-within unused-within
   read-line (fadd r x a) rest h =
-      row-read 7 r x a unused rest refl (lt-ltb r _ (h .0)) refl (lt-ltb x _ (h .1)) (h .2) unused-within
-  read-line (cas r x a b) rest h =
-      row-read 8 r x a b rest refl (lt-ltb r _ (h .0)) refl (lt-ltb x _ (h .1)) (h .2) (h .3)
-  read-line (wait x a) rest h = row-read 9 0 x a unused rest refl refl refl (lt-ltb x _ (h .0)) (h .1) unused-within
-  read-line (bcas x a b) rest h = row-read 10 0 x a b rest refl refl refl (lt-ltb x _ (h .0)) (h .1) (h .2)
+      row-read 7 r x a unused rest refl (omega passes) refl (omega passes) (h .2) unused-within
+  read-line (cas r x a b) rest h = row-read 8 r x a b rest refl (omega passes) refl (omega passes) (h .2) (h .3)
+  read-line (wait x a) rest h = row-read 9 0 x a unused rest refl refl refl (omega passes) (h .1) unused-within
+  read-line (bcas x a b) rest h = row-read 10 0 x a b rest refl refl refl (omega passes) (h .1) (h .2)

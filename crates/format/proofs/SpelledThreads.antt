@@ -31,8 +31,8 @@ module _ (L K : ℕ) (some-values : minValues ≤ K) (few-values : K ≤ maxValu
       → readThread L K (spellThread lines ++ rest) ≡ accepted (lines, rest)
   unfolding readThread spellThread
   read-thread lines rest h =
-      check-passes 3 _ _ (record-found markTH sizeTH (length lines ∷ spellLines lines ++ rest) (omega arith))
-      ∙ check-passes 4 _ _ (le-leb (length lines) maxLines (h .few))
+      check-passes _ _ _ (record-found markTH sizeTH (length lines ∷ spellLines lines ++ rest) (omega arith))
+      ∙ check-passes _ _ _ (le-leb (length lines) maxLines (h .few))
       ∙ read-lines (length lines) lines rest (h .each)
 
   pub read-threads : (threads : List (List Line)) (rest : List ℕ) → All (ThreadWithin L K) threads

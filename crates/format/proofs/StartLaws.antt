@@ -1,7 +1,8 @@
 -- The starts of the threads, one after another, and how far they reach.
 use Prim.Native.Nat.{ℕ, zero, suc, _+_, _*_, _≤_, _<_}
-use mathlib.Core.List.{List, [], _∷_}
-use mathlib.Core.Path.{_≡_, refl, ap}
+use mathlib.Core.List.{List, [], _∷_, _++_}
+use mathlib.Core.Path.{_≡_, refl, sym, ap, _∙_}
+use native.Mathlib.Nat.{add-zero}
 use native.Mathlib.Omega.{arith}
 use lib.ListN.{length, getD, length-append}
 use Rattle.limits.specs.Limits.{maxThreads, maxLines}
@@ -18,6 +19,20 @@ pub length-startsFrom : (at : ℕ) (threads : List (List Line)) → length (star
 unfolding startsFrom
 length-startsFrom at [] = refl
 length-startsFrom at (lines ∷ threads) = ap suc (length-startsFrom (at + threadSize lines) threads)
+
+-- The starts of more threads go on where the threads before them end.
+pub starts-append : (at : ℕ) (threads others : List (List Line))
+    → startsFrom at (threads ++ others)
+    ≡ startsFrom at threads ++ startsFrom (at + length (spellThreads threads)) others
+unfolding startsFrom spellThreads
+starts-append at [] others = ap (λ k. startsFrom k others) (sym (add-zero at))
+starts-append at (lines ∷ threads) others =
+    let next = at + threadSize lines in
+    let size = length (spellThread lines ++ spellThreads threads) in
+    let sized = length-append (spellThread lines) (spellThreads threads) in
+    let on : next + length (spellThreads threads) ≡ at + size = omega (arith, length-spellThread lines) in
+    ap (λ l. (at + sizeTH) ∷ l)
+    (starts-append next threads others ∙ ap (λ k. startsFrom next threads ++ startsFrom k others) on)
 
 -- The first thread's lines start after the PR record and its TH record, and each next thread's after the one before.
 pub first-start : (threads : List (List Line)) → 0 < length threads → startOf threads 0 ≡ sizePR + sizeTH
