@@ -88,14 +88,14 @@ filled-cons L K h i next lines (accepted others) = ends-or-not (eqb (length (oth
 
 module _ (L K : ℕ) (bytes : List ℕ) where
   -- A thread that fails ends the reading.
-  pub thread-fails : (left : ℕ) → 0 < left → {k : ℕ} (h : Header) (i next : ℕ) → threadOf (readThread L K bytes) ≡ Faulty k
+  thread-fails : (left : ℕ) → 0 < left → {k : ℕ} (h : Header) (i next : ℕ) → threadOf (readThread L K bytes) ≡ Faulty k
       → filled h i next (restOf L K left bytes) ≡ refusal k
   unfolding filled readThreads andThen
   thread-fails zero some h i next e = absurd (omega arith)
   thread-fails (suc left) some h i next e = rw (thread-refused (readThread L K bytes) e)
 
   -- A thread that is read leaves one fewer.
-  pub thread-passes : (left : ℕ) → 0 < left → {n : ℕ} (h : Header) (i next : ℕ) → threadOf (readThread L K bytes) ≡ Lines n
+  thread-passes : (left : ℕ) → 0 < left → {n : ℕ} (h : Header) (i next : ℕ) → threadOf (readThread L K bytes) ≡ Lines n
       → (sizeTH + n * sizeIN ≤ length bytes)
       × (filled h i next (restOf L K left bytes)
       ≡ filled (withThread h i (next + sizeTH) n) (i + 1) (next + (sizeTH + n * sizeIN))
@@ -119,18 +119,18 @@ module _ (L K : ℕ) (bytes : List ℕ) where
       (restOf L K c (drop (sizeTH + n * sizeIN) bytes))) one)
 
 -- Behind the last thread the input ends, or check 9 fails.
-pub ends : (L K : ℕ) (bytes : List ℕ) (h : Header) (i next : ℕ) → length bytes ≡ 0
+ends : (L K : ℕ) (bytes : List ℕ) (h : Header) (i next : ℕ) → length bytes ≡ 0
     → filled h i next (restOf L K 0 bytes) ≡ record { check = Passed; header = h }
 unfolding filled readThreads andThen endsAfter check startsFrom
 ends L K bytes h i next e = rw (eq-eqb (length bytes) 0 e)
 
-pub goes-on : (L K : ℕ) (bytes : List ℕ) (h : Header) (i next : ℕ) → 0 < length bytes
+goes-on : (L K : ℕ) (bytes : List ℕ) (h : Header) (i next : ℕ) → 0 < length bytes
     → filled h i next (restOf L K 0 bytes) ≡ refusal 9
 unfolding filled readThreads andThen endsAfter check
 goes-on L K bytes h i next e = rw (ne-eqb (length bytes) 0 (λ z. omega arith))
 
 -- Filled from the start it is the answer.
-pub filled-is-reading : (T L K : ℕ) (bytes : List ℕ)
+filled-is-reading : (T L K : ℕ) (bytes : List ℕ)
     → filled (emptyHeader T L K) 0 sizePR (restOf L K T bytes) ≡ reading (restOf L K T bytes)
 unfolding filled andThen endsAfter check reading headerOf noHeader
 filled-is-reading T L K bytes = go (readThreads L K T bytes) refl
@@ -145,3 +145,36 @@ filled-is-reading T L K bytes = go (readThreads L K T bytes) refl
             ≡ reading (check 9 b (accepted (record { threads = got .0; locations = L; values = K })))
         ends-or-not true = rw (sym (threads-read L K T bytes e .counted))
         ends-or-not false = refl
+
+-- The loop's invariant in its place: after i of T threads, at byte next, what is left comes to the answer `whole`.
+abbrev pub Ahead : (L K T : ℕ) → List ℕ → Header → (i next : ℕ) → Reading → Type 0
+Ahead L K T bytes h i next whole = filled h i next (restOf L K (T - i) (drop next bytes)) ≡ whole
+
+module _ (L K T : ℕ) (bytes : List ℕ) (h : Header) (i next : ℕ) (whole : Reading) (ahead : Ahead L K T bytes h i next whole) where
+  pub turn-fails : i < T → {k : ℕ} → threadOf (readThread L K (drop next bytes)) ≡ Faulty k → refusal k ≡ whole
+  turn-fails more e = sym (thread-fails L K (drop next bytes) (T - i) (omega arith) h i next e) ∙ ahead
+
+  pub turn-passes : i < T → next ≤ length bytes → {n : ℕ} → threadOf (readThread L K (drop next bytes)) ≡ Lines n
+      → (next + sizeTH + n * sizeIN ≤ length bytes)
+      × Ahead L K T bytes (withThread h i (next + sizeTH) n) (i + 1) (next + sizeTH + n * sizeIN) whole
+  turn-passes more inside {n} e =
+      let p = thread-passes L K (drop next bytes) (T - i) (omega arith) h i next e in
+      let here : next + sizeTH + n * sizeIN ≡ next + (sizeTH + n * sizeIN) = omega arith in
+      let one : T - (i + 1) ≡ T - i - 1 = omega arith in
+      (omega (arith, p .0, length-drop next bytes),
+      rw (here, one, ← drop-drop (sizeTH + n * sizeIN) next bytes) (sym (p .1) ∙ ahead))
+
+  all-read : i ≡ T → filled h i next (restOf L K 0 (drop next bytes)) ≡ whole
+  all-read e = let none : 0 ≡ T - i = omega arith in rw none ahead
+
+  pub input-ends : i ≡ T → length bytes ≤ next → record { check = Passed; header = h } ≡ whole
+  input-ends e end = sym (ends L K (drop next bytes) h i next (omega (arith, length-drop next bytes))) ∙ all-read e
+
+  pub input-goes-on : i ≡ T → next < length bytes → refusal 9 ≡ whole
+  input-goes-on e more = sym (goes-on L K (drop next bytes) h i next (omega (arith, length-drop next bytes))) ∙ all-read e
+
+-- Where the loop begins.
+pub begins : (T L K : ℕ) (bytes : List ℕ) (h : Header) → h ≡ emptyHeader T L K
+    → Ahead L K T bytes h 0 sizePR (reading (restOf L K T (drop sizePR bytes)))
+begins T L K bytes h e =
+    let none : T - 0 ≡ T = omega arith in rw (e, none) (filled-is-reading T L K (drop sizePR bytes))

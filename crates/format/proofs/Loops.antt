@@ -4,15 +4,19 @@ use native.Mathlib.Omega.{arith}
 use mathlib.Core.Path.{_≡_, refl, ap, sym, _∙_}
 use mathlib.Core.Bool.{true}
 use mathlib.Core.List.{List}
-use lib.ListN.{length, drop, length-drop}
-use lib.Seq.{drop-drop}
+use lib.ListN.{length, getD, drop, length-drop}
+use borrow.Author.Tests.{le-leb}
+use Rattle.limits.specs.Limits.{maxLines}
+use lib.Seq.{drop-drop, getD-drop}
 use Rattle.model.specs.Program.{Line}
 use Rattle.format.specs.Outcome.{Outcome, check, andThen}
 use Rattle.format.specs.Outcome.Outcome.{refused, accepted}
-use Rattle.format.specs.Format.{isRecord, markIN, sizeIN, fieldsToLine, readLine, readLines}
-use Rattle.format.specs.Answer.{checkOf, fieldsOf}
+use Rattle.format.specs.Format.{isRecord, markIN, markTH, sizeIN, sizeTH, fieldsToLine, readLine, readLines, readThread}
+use Rattle.format.specs.Answer.{checkOf, fieldsOf, threadOf}
 use Rattle.format.specs.declared.Check.{Check}
 use Rattle.format.specs.declared.Check.the-variants.{Passed, Failed}
+use Rattle.format.specs.declared.threads.Thread.the-variants.{Lines, Faulty}
+use Rattle.format.proofs.AcceptedThreads.{lines-read}
 use Rattle.format.proofs.OutcomeLaws.{andThen-goes-on, andThen-stops}
 use Rattle.format.proofs.RecordLaws.{record-stands}
 use Rattle.format.proofs.AcceptedLine.{line-read}
@@ -71,3 +75,23 @@ pub line-checked : (L K n : ℕ) (bytes : List ℕ) → isRecord markIN sizeIN b
     ≡ checkOf (fieldsToLine L K n (fieldsOf bytes .op) (fieldsOf bytes .reg) (fieldsOf bytes .target) (fieldsOf bytes .a) (fieldsOf bytes .b))
 unfolding readLine check fieldsOf
 line-checked L K n bytes e = rw e (check-goes-on _ (λ line. (line, drop sizeIN bytes)))
+
+-- A thread whose record stands at a cursor, with few enough lines, is what its lines are.
+module _ (L K : ℕ) (bytes : List ℕ) (at : ℕ)
+    (due : isRecord markTH sizeTH (drop at bytes) ≡ true) (few : getD bytes (at + 2) 0 ≤ maxLines) where
+  thread-lines : readThread L K (drop at bytes)
+      ≡ readLines L K (getD bytes (at + 2) 0) (getD bytes (at + 2) 0) (drop (at + sizeTH) bytes)
+  unfolding readThread check
+  thread-lines = rw (due, getD-drop at bytes 2 0, le-leb (getD bytes (at + 2) 0) maxLines few, drop-drop sizeTH at bytes)
+
+  pub thread-passed : (n : ℕ) → getD bytes (at + 2) 0 ≡ n → checkOf (readLines L K n n (drop (at + sizeTH) bytes)) ≡ Passed
+      → threadOf (readThread L K (drop at bytes)) ≡ Lines n
+  unfolding threadOf
+  thread-passed n is e =
+      let (got, read) = is-accepted (readLines L K n n (drop (at + sizeTH) bytes)) e in
+      rw (thread-lines, is, read) (ap Lines (lines-read L K n n (drop (at + sizeTH) bytes) read .counted))
+
+  pub thread-failed : (n : ℕ) {k : ℕ} → getD bytes (at + 2) 0 ≡ n → checkOf (readLines L K n n (drop (at + sizeTH) bytes)) ≡ Failed k
+      → threadOf (readThread L K (drop at bytes)) ≡ Faulty k
+  unfolding threadOf
+  thread-failed n is e = rw (thread-lines, is, is-refused (readLines L K n n (drop (at + sizeTH) bytes)) e)
