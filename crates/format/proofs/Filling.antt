@@ -30,7 +30,7 @@ withThread h i start count =
       locations = h .locations;
       values = h .values;
       starts = set (h .starts) i start;
-      counts = set (h .counts) i count
+      counts = set (h .counts) i count;
     }
 
 -- The answer once the rest of the threads, from thread i and byte next on, has been read into a header.
@@ -40,13 +40,13 @@ filled h i next (accepted p) =
     record {
       check = Passed;
       header =
-        record {
-          threads = h .threads;
-          locations = h .locations;
-          values = h .values;
-          starts = sets (h .starts) i (startsFrom next (p .threads));
-          counts = sets (h .counts) i (map length (p .threads))
-        }
+          record {
+            threads = h .threads;
+            locations = h .locations;
+            values = h .values;
+            starts = sets (h .starts) i (startsFrom next (p .threads));
+            counts = sets (h .counts) i (map length (p .threads));
+          };
     }
 
 -- The rest of an input: so many threads, and the end.
@@ -106,17 +106,18 @@ module _ (L K : ℕ) (bytes : List ℕ) where
       let (got, read, counted) = thread-accepted (readThread L K bytes) e in
       let now = thread-read L K bytes read in
       let one : left ≡ suc left - 1 = omega arith in
-      let o = readThreads L K left (got .1) in
-      (subst (λ (m : ℕ). sizeTH + m * sizeIN ≤ length bytes) counted (now .whole),
-      ap (λ (r : Outcome (List (List Line) × List ℕ)). filled h i next (andThen r (endsAfter L K)))
-      (andThen-goes-on (readThread L K bytes) _ read)
-      ∙ filled-cons L K h i next (got .0) o
-      ∙ ap (λ (b : List ℕ). filled (withThread h i (next + sizeTH) (length (got .0))) (i + 1) (next + threadSize (got .0))
-      (restOf L K left b)) (now .after)
-      ∙ ap (λ (m : ℕ). filled (withThread h i (next + sizeTH) m) (i + 1) (next + (sizeTH + m * sizeIN))
-      (restOf L K left (drop (sizeTH + m * sizeIN) bytes))) counted
-      ∙ ap (λ (c : ℕ). filled (withThread h i (next + sizeTH) n) (i + 1) (next + (sizeTH + n * sizeIN))
-      (restOf L K c (drop (sizeTH + n * sizeIN) bytes))) one)
+      let o = readThreads L K left (got .1) in (
+        subst (λ (m : ℕ). sizeTH + m * sizeIN ≤ length bytes) counted (now .whole),
+        ap (λ (r : Outcome (List (List Line) × List ℕ)). filled h i next (andThen r (endsAfter L K)))
+            (andThen-goes-on (readThread L K bytes) _ read)
+            ∙ filled-cons L K h i next (got .0) o
+            ∙ ap (λ (b : List ℕ). filled (withThread h i (next + sizeTH) (length (got .0))) (i + 1) (next + threadSize (got .0))
+            (restOf L K left b)) (now .after)
+            ∙ ap (λ (m : ℕ). filled (withThread h i (next + sizeTH) m) (i + 1) (next + (sizeTH + m * sizeIN))
+            (restOf L K left (drop (sizeTH + m * sizeIN) bytes))) counted
+            ∙ ap (λ (c : ℕ). filled (withThread h i (next + sizeTH) n) (i + 1) (next + (sizeTH + n * sizeIN))
+            (restOf L K c (drop (sizeTH + n * sizeIN) bytes))) one,
+      )
 
 -- Behind the last thread the input ends, or check 9 fails.
 ends : (L K : ℕ) (bytes : List ℕ) (h : Header) (i next : ℕ) → length bytes ≡ 0
@@ -160,9 +161,10 @@ module _ (L K T : ℕ) (bytes : List ℕ) (h : Header) (i next : ℕ) (whole : R
   turn-passes more inside {n} e =
       let p = thread-passes L K (drop next bytes) (T - i) (omega arith) h i next e in
       let here : next + sizeTH + n * sizeIN ≡ next + (sizeTH + n * sizeIN) = omega arith in
-      let one : T - (i + 1) ≡ T - i - 1 = omega arith in
-      (omega (arith, p .0, length-drop next bytes),
-      rw (here, one, ← drop-drop (sizeTH + n * sizeIN) next bytes) (sym (p .1) ∙ ahead))
+      let one : T - (i + 1) ≡ T - i - 1 = omega arith in (
+        omega (arith, p .0, length-drop next bytes),
+        rw (here, one, ← drop-drop (sizeTH + n * sizeIN) next bytes) (sym (p .1) ∙ ahead),
+      )
 
   all-read : i ≡ T → filled h i next (restOf L K 0 (drop next bytes)) ≡ whole
   all-read e = let none : 0 ≡ T - i = omega arith in rw none ahead

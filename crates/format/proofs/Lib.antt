@@ -22,3 +22,4 @@ pub mod Fields
 pub mod Loops
 pub mod Filling
 pub mod LoopLaws
+pub mod AcceptedLines

@@ -62,12 +62,13 @@ module _ (L K n : ℕ) (bytes : List ℕ) where
   lines-pass (suc left) some e =
       let (first, read) = is-accepted (readLine L K n bytes) e in
       let now = line-read L K n bytes read in
-      let one : left ≡ suc left - 1 = omega arith in
-      (now .whole,
-      ap checkOf (andThen-goes-on (readLine L K n bytes) _ read)
-      ∙ check-goes-on (readLines L K n left (first .1)) _
-      ∙ ap (λ (b : List ℕ). checkOf (readLines L K n left b)) (now .after)
-      ∙ ap (λ (c : ℕ). checkOf (readLines L K n c (drop sizeIN bytes))) one)
+      let one : left ≡ suc left - 1 = omega arith in (
+        now .whole,
+        ap checkOf (andThen-goes-on (readLine L K n bytes) _ read)
+            ∙ check-goes-on (readLines L K n left (first .1)) _
+            ∙ ap (λ (b : List ℕ). checkOf (readLines L K n left b)) (now .after)
+            ∙ ap (λ (c : ℕ). checkOf (readLines L K n c (drop sizeIN bytes))) one,
+      )
 
 -- A line's record that stands there is checked by its fields.
 pub line-checked : (L K n : ℕ) (bytes : List ℕ) → isRecord markIN sizeIN bytes ≡ true

@@ -38,7 +38,7 @@ noHeader =
       locations = 0;
       values = 0;
       starts = replicate maxThreads 0;
-      counts = replicate maxThreads 0
+      counts = replicate maxThreads 0;
     }
 
 -- The header of a program: T, L, K, and for each thread where its lines start and how many there are, 0 past the last thread.
@@ -49,7 +49,7 @@ headerOf p =
       locations = p .locations;
       values = p .values;
       starts = sets (replicate maxThreads 0) 0 (startsFrom sizePR (p .threads));
-      counts = sets (replicate maxThreads 0) 0 (map length (p .threads))
+      counts = sets (replicate maxThreads 0) 0 (map length (p .threads));
     }
 
 -- The answer of the reader: the number of the first failed check, or the program's header.
@@ -90,7 +90,7 @@ fieldsOf bytes =
       reg = getD bytes 3 0;
       target = getD bytes 4 0;
       a = getD bytes 5 0;
-      b = getD bytes 6 0
+      b = getD bytes 6 0;
     }
 
 -- A target of the op table, and its code.

@@ -1,6 +1,5 @@
 // Checks of one record: the marks, and the fields of a line.
 use crate::Check;
-
 ghost use mathlib.Core.Path.{_≡_};
 ghost use Prim.Native.Nat.{_+_, _≤_};
 ghost use lib.ListN.{length, drop};
@@ -89,21 +88,13 @@ fn row_of(op: u8) -> Row
 fn when_used(used: bool, test: bool) -> bool
     ensures { λ r. ⌜ r ≡ whenUsed used test ⌝ }
 {
-    if used {
-        test
-    } else {
-        true
-    }
+    if used { test } else { true }
 }
 
 fn zero_unless_used(used: bool, x: u8) -> bool
     ensures { λ r. ⌜ r ≡ zeroUnlessUsed used x ⌝ }
 {
-    if used {
-        true
-    } else {
-        x == 0
-    }
+    if used { true } else { x == 0 }
 }
 
 fn uses_target(target: Target) -> bool

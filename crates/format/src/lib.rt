@@ -5,9 +5,9 @@ mod lines;
 mod threads;
 
 use checks::is_record;
-use lines::{decode, fields_at};
+use lines::decode;
+use lines::fields_at;
 use threads::read_threads;
-
 ghost use mathlib.Core.Path.{_≡_};
 ghost use Prim.Native.Nat.{_<_};
 ghost use lib.ListN.{length, getD};
@@ -43,16 +43,53 @@ pub enum Operand {
 
 // A line, with the fields that it uses.
 pub enum Line {
-    Sum { reg: usize, a: Operand, b: Operand },
-    Equal { reg: usize, a: Operand, b: Operand },
-    Less { reg: usize, a: Operand, b: Operand },
-    Jump { target: usize, a: Operand },
-    Write { location: usize, a: Operand },
-    Read { reg: usize, location: usize },
-    Fadd { reg: usize, location: usize, a: Operand },
-    Cas { reg: usize, location: usize, a: Operand, b: Operand },
-    Wait { location: usize, a: Operand },
-    Bcas { location: usize, a: Operand, b: Operand },
+    Sum {
+        reg: usize,
+        a: Operand,
+        b: Operand,
+    },
+    Equal {
+        reg: usize,
+        a: Operand,
+        b: Operand,
+    },
+    Less {
+        reg: usize,
+        a: Operand,
+        b: Operand,
+    },
+    Jump {
+        target: usize,
+        a: Operand,
+    },
+    Write {
+        location: usize,
+        a: Operand,
+    },
+    Read {
+        reg: usize,
+        location: usize,
+    },
+    Fadd {
+        reg: usize,
+        location: usize,
+        a: Operand,
+    },
+    Cas {
+        reg: usize,
+        location: usize,
+        a: Operand,
+        b: Operand,
+    },
+    Wait {
+        location: usize,
+        a: Operand,
+    },
+    Bcas {
+        location: usize,
+        a: Operand,
+        b: Operand,
+    },
 }
 
 // The header of no program.

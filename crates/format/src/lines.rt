@@ -2,8 +2,9 @@
 use crate::Check;
 use crate::Line;
 use crate::Operand;
-use crate::checks::{check_fields, is_record, Fields};
-
+use crate::checks::Fields;
+use crate::checks::check_fields;
+use crate::checks::is_record;
 ghost use mathlib.Core.Path.{_≡_};
 ghost use Prim.Native.Nat.{_+_, _≤_};
 ghost use lib.ListN.{length, drop};

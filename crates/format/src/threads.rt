@@ -1,10 +1,10 @@
 // The threads of a program.
-use crate::checks::is_record;
-use crate::lines::check_lines;
-use crate::{no_header, refused};
 use crate::Check;
 use crate::Reading;
-
+use crate::checks::is_record;
+use crate::lines::check_lines;
+use crate::no_header;
+use crate::refused;
 ghost use mathlib.Core.Path.{_≡_};
 ghost use Prim.Native.Nat.{_≤_};
 ghost use lib.ListN.{length, drop};

@@ -54,7 +54,7 @@ add-next c =
     let a = c .before .before .before .before .before .before .args in
     let i = c .before .before .before .before .loop in
     let p = lines-pass (a .l) (a .k) (a .n) (drop (i .next) (now (a .bytes))) (i .left) (c .before .before .before .loop-test .taken)
-      (sym (c .before .before .check-line .ensures) ∙ c .enum-told .given .1) in
+    (sym (c .before .before .check-line .ensures) ∙ c .enum-told .given .1) in
     omega (arith, p .0, length-drop (i .next) (now (a .bytes)))
 
 -- src/lines.rt:60:24
@@ -71,11 +71,12 @@ loop-again c =
     let a = c .before .before .before .before .before .before .args in
     let i = c .before .before .before .before .loop in
     let p = lines-pass (a .l) (a .k) (a .n) (drop (i .next) (now (a .bytes))) (i .left) (c .before .before .before .loop-test .taken)
-      (sym (c .before .before .check-line .ensures) ∙ c .enum-told .given .1) in
-    (omega (arith, p .0, length-drop (i .next) (now (a .bytes))),
-    ap (λ (b : List ℕ). checkOf (readLines (a .l) (a .k) (a .n) (i .left - 1) b)) (sym (drop-drop 7 (i .next) (now (a .bytes))))
-    ∙ sym (p .1)
-    ∙ i .inv .1)
+    (sym (c .before .before .check-line .ensures) ∙ c .enum-told .given .1) in (
+      omega (arith, p .0, length-drop (i .next) (now (a .bytes))),
+      ap (λ (b : List ℕ). checkOf (readLines (a .l) (a .k) (a .n) (i .left - 1) b)) (sym (drop-drop 7 (i .next) (now (a .bytes))))
+          ∙ sym (p .1)
+          ∙ i .inv .1,
+    )
 
 -- src/lines.rt:46:1
 returns-2 : tie.Need-returns-2 Inv-loop μ-loop

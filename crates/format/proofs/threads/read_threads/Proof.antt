@@ -34,9 +34,12 @@ no-header-requires c κs = search needs
 -- src/threads.rt:52:5
 loop-holds : tie.Need-loop-holds Inv-loop μ-loop
 loop-holds c =
-    let a = c .before .before .args in
-    (search needs, search needs, begins (a .t) (a .l) (a .k) (now (a .bytes)) _
-    (ap (λ (h : Header). let r : Header = record { threads = a .t; locations = a .l; values = a .k; starts = h .starts; counts = h .counts } in r) (c .no-header .ensures)))
+    let a = c .before .before .args in (
+      search needs,
+      search needs,
+      begins (a .t) (a .l) (a .k) (now (a .bytes)) _
+          (ap (λ (h : Header). let r : Header = record { threads = a .t; locations = a .l; values = a .k; starts = h .starts; counts = h .counts } in r) (c .no-header .ensures)),
+    )
 
 -- src/threads.rt:53:13
 read-thread-requires : tie.Need-read-thread-requires Inv-loop μ-loop
@@ -73,7 +76,7 @@ add-header c =
     let a = c .before .before .before .before .before .before .before .before .args in
     let i = c .before .before .before .before .before .loop in
     let p = turn-passes (a .l) (a .k) (a .t) (now (a .bytes)) (i .header) (i .i) (i .next) (reading (restOf (a .l) (a .k) (a .t) (drop sizePR (now (a .bytes))))) (i .inv .2) (c .before .before .before .before .loop-test .taken) (i .inv .0)
-      (sym (c .before .before .before .read-thread .ensures) ∙ c .before .thread2 .given .1) in
+    (sym (c .before .before .before .read-thread .ensures) ∙ c .before .thread2 .given .1) in
     omega (arith, p .0)
 
 -- src/threads.rt:60:17
@@ -100,7 +103,7 @@ add-next c =
     let a = c .before .before .before .before .before .before .before .before .args in
     let i = c .before .before .before .before .before .loop in
     let p = turn-passes (a .l) (a .k) (a .t) (now (a .bytes)) (i .header) (i .i) (i .next) (reading (restOf (a .l) (a .k) (a .t) (drop sizePR (now (a .bytes))))) (i .inv .2) (c .before .before .before .before .loop-test .taken) (i .inv .0)
-      (sym (c .before .before .before .read-thread .ensures) ∙ c .before .thread2 .given .1) in
+    (sym (c .before .before .before .read-thread .ensures) ∙ c .before .thread2 .given .1) in
     omega (arith, p .0)
 
 -- src/threads.rt:62:35
@@ -113,7 +116,7 @@ add-next-2 c =
     let a = c .before .before .before .before .before .before .before .before .args in
     let i = c .before .before .before .before .before .loop in
     let p = turn-passes (a .l) (a .k) (a .t) (now (a .bytes)) (i .header) (i .i) (i .next) (reading (restOf (a .l) (a .k) (a .t) (drop sizePR (now (a .bytes))))) (i .inv .2) (c .before .before .before .before .loop-test .taken) (i .inv .0)
-      (sym (c .before .before .before .read-thread .ensures) ∙ c .before .thread2 .given .1) in
+    (sym (c .before .before .before .read-thread .ensures) ∙ c .before .thread2 .given .1) in
     omega (arith, p .0)
 
 -- src/threads.rt:63:21
@@ -130,7 +133,7 @@ loop-again c =
     let a = c .before .before .before .before .before .before .before .before .args in
     let i = c .before .before .before .before .before .loop in
     let p = turn-passes (a .l) (a .k) (a .t) (now (a .bytes)) (i .header) (i .i) (i .next) (reading (restOf (a .l) (a .k) (a .t) (drop sizePR (now (a .bytes))))) (i .inv .2) (c .before .before .before .before .loop-test .taken) (i .inv .0)
-      (sym (c .before .before .before .read-thread .ensures) ∙ c .before .thread2 .given .1) in
+    (sym (c .before .before .before .read-thread .ensures) ∙ c .before .thread2 .given .1) in
     (p .0, omega arith, p .1)
 
 -- src/threads.rt:68:9
