@@ -1,5 +1,5 @@
 use Rattle.format.proofs.HeaderLaws.{in-range}
-use Rattle.format.proofs.Loops.{record-fits}
+use Rattle.format.proofs.Turns.{record-fits}
 use Rattle.format.specs.Answer.{reading}
 use Rattle.format.specs.Format.{markPR, readProgram}
 use Rattle.format.specs.Outcome.{check}

@@ -1,6 +1,6 @@
 use borrow.Author.Tests.{not-true, not-false}
 use mathlib.Core.Path.{sym, _∙_, ap}
-use Rattle.format.proofs.Fields.{five-tests, two-tests, target-of-row}
+use Rattle.format.proofs.RowTests.{five-tests, two-tests, target-of-row}
 use borrow.Author.Needs.{needs}
 use Rattle.format.proofs.checks.are_operands.Statement.{statement}
 use Rattle.format.proofs.checks.are_operands.Tie as tie

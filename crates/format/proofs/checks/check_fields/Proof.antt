@@ -4,7 +4,7 @@ use Rattle.format.specs.Outcome.{check}
 use Rattle.format.specs.Format.{fieldsToLine, isTarget}
 use borrow.Author.Tests.{not-true, not-false}
 use mathlib.Core.Path.{sym, _∙_, ap}
-use Rattle.format.proofs.Fields.{five-tests, two-tests, target-of-row}
+use Rattle.format.proofs.RowTests.{five-tests, two-tests, target-of-row}
 use borrow.Author.Needs.{needs}
 use Rattle.format.proofs.checks.check_fields.Statement.{statement}
 use Rattle.format.proofs.checks.check_fields.Tie as tie

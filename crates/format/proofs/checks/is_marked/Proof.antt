@@ -1,4 +1,4 @@
-use Rattle.format.proofs.Records.{two-marks}
+use Rattle.format.proofs.AtCursor.{two-marks}
 use borrow.Author.Tests.{eq-eqb, ne-eqb}
 use denote.Ref.{now}
 use mathlib.Core.Path.{sym, _∙_}

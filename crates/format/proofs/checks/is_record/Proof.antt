@@ -1,6 +1,6 @@
 use mathlib.Core.Path.{sym, _∙_}
 use denote.Ref.{now}
-use Rattle.format.proofs.Records.{too-short, fits-if-marked}
+use Rattle.format.proofs.AtCursor.{too-short, fits-if-marked}
 use borrow.Author.Needs.{needs}
 use Rattle.format.proofs.checks.is_record.Statement.{statement}
 use Rattle.format.proofs.checks.is_record.Tie as tie

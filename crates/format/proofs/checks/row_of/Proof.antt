@@ -1,4 +1,4 @@
-use Rattle.format.proofs.Table.{first-row}
+use Rattle.format.proofs.FirstRow.{first-row}
 use Rattle.format.specs.Answer.{rowOf, targetOf}
 use Rattle.format.specs.Ops.{opTable, opAt, sumOp}
 use mathlib.Core.Path.{sym, _∙_, ap}

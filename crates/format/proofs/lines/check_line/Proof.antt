@@ -1,4 +1,4 @@
-use Rattle.format.proofs.Loops.{record-fits, line-checked}
+use Rattle.format.proofs.Turns.{record-fits, line-checked}
 use Rattle.format.specs.declared.checks.Fields.{Fields}
 use Rattle.format.specs.Answer.{checkOf}
 use Rattle.format.specs.Format.{readLine, markIN, fieldsToLine}

@@ -1,4 +1,4 @@
-use Rattle.format.proofs.Loops.{lines-fail, lines-pass}
+use Rattle.format.proofs.Turns.{lines-fail, lines-pass}
 use Rattle.format.specs.Answer.{checkOf}
 use Rattle.format.specs.Format.{readLine, readLines}
 use lib.Seq.{drop-drop}

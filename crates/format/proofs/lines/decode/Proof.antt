@@ -1,4 +1,4 @@
-use Rattle.format.proofs.Table.{first-row}
+use Rattle.format.proofs.FirstRow.{first-row}
 use Rattle.format.specs.Answer.{lineMeans}
 use Rattle.format.specs.Ops.{opTable, opAt, sumOp}
 use borrow.Author.Needs.{needs}

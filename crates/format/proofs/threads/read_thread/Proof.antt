@@ -1,4 +1,4 @@
-use Rattle.format.proofs.Loops.{record-fits, thread-passed, thread-failed}
+use Rattle.format.proofs.Turns.{record-fits, thread-passed, thread-failed}
 use Rattle.format.specs.Answer.{threadOf}
 use Rattle.format.specs.Format.{markTH, readThread, readLines}
 use Rattle.format.specs.Outcome.{check}
