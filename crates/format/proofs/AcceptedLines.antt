@@ -10,16 +10,16 @@ use Rattle.limits.specs.Limits.{maxThreads}
 use Rattle.model.specs.Program.{Line, Program, linesOf}
 use Rattle.model.specs.Program.Operand.{constant}
 use Rattle.model.specs.Program.Line.{wait}
-use Rattle.format.specs.Outcome.Outcome.{accepted}
-use Rattle.format.specs.Ops.{opAt}
-use Rattle.format.specs.Format.{sizePR, sizeIN, operand, readProgram, programOf}
-use Rattle.format.specs.Layout.{startsFrom, startOf}
+use Rattle.program_bytes.specs.Outcome.Outcome.{accepted}
+use Rattle.program_bytes.specs.Ops.{opAt}
+use Rattle.program_bytes.specs.Format.{sizePR, sizeIN, operand, readProgram, programOf}
+use Rattle.program_bytes.specs.Layout.{startsFrom, startOf}
 use Rattle.format.specs.Answer.{Accepted, headerOf, fieldsOf}
 use Rattle.format.specs.declared.Header.{Header}
 use Rattle.format.specs.declared.checks.Fields.{Fields}
-use Rattle.format.proofs.RoundTrip.{accepted-is-spelling}
-use Rattle.format.proofs.Places.{LineStands, line-stands}
-use Rattle.format.proofs.StartLaws.{length-startsFrom}
+use Rattle.program_bytes.proofs.RoundTrip.{accepted-is-spelling}
+use Rattle.program_bytes.proofs.Places.{LineStands, line-stands}
+use Rattle.program_bytes.proofs.StartLaws.{length-startsFrom}
 
 -- What fills the front of a row of zeros is read there.
 front-of-row : (width : ℕ) (l : List ℕ) (t : ℕ) → t < length l → length l ≤ width → getD (sets (replicate width 0) 0 l) t 0 ≡ getD l t 0

@@ -10,17 +10,17 @@ use lib.Seq.{sets, drop-drop}
 use lib.Dec.{eqb}
 use borrow.Author.Tests.{eq-eqb, ne-eqb}
 use Rattle.model.specs.Program.{Line, Program}
-use Rattle.format.specs.Outcome.{Outcome, check, andThen}
-use Rattle.format.specs.Outcome.Outcome.{refused, accepted}
-use Rattle.format.specs.Format.{sizePR, sizeTH, sizeIN, readThread, readThreads, endsAfter}
-use Rattle.format.specs.Layout.{startsFrom, threadSize}
+use Rattle.program_bytes.specs.Outcome.{Outcome, check, andThen}
+use Rattle.program_bytes.specs.Outcome.Outcome.{refused, accepted}
+use Rattle.program_bytes.specs.Format.{sizePR, sizeTH, sizeIN, readThread, readThreads, endsAfter}
+use Rattle.program_bytes.specs.Layout.{startsFrom, threadSize}
 use Rattle.format.specs.Answer.{noHeader, refusal, reading, headerOf, threadOf}
 use Rattle.format.specs.declared.Check.the-variants.{Passed}
 use Rattle.format.specs.declared.Header.{Header}
 use Rattle.format.specs.declared.Reading.{Reading}
 use Rattle.format.specs.declared.threads.Thread.the-variants.{Lines, Faulty}
-use Rattle.format.proofs.OutcomeLaws.{andThen-goes-on, andThen-stops}
-use Rattle.format.proofs.AcceptedThreads.{thread-read, threads-read}
+use Rattle.program_bytes.proofs.OutcomeLaws.{andThen-goes-on, andThen-stops}
+use Rattle.program_bytes.proofs.AcceptedThreads.{thread-read, threads-read}
 
 -- A header with thread i's lines filled in.
 abbrev pub withThread : Header → (i start count : ℕ) → Header

@@ -3,7 +3,7 @@ use Prim.Native.Nat.{ℕ, zero, suc, _-_}
 use native.Mathlib.Numerals.{sub-one}
 use mathlib.Core.Path.{_≡_, refl, ap}
 use lib.ListN.{getD}
-use Rattle.format.specs.Ops.{opTable, opAt, sumOp}
+use Rattle.program_bytes.specs.Ops.{opTable, opAt, sumOp}
 
 -- The ops of the table after the first, one by one.
 pub record Later (op : ℕ) : Type 0 where

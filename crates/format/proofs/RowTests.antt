@@ -3,9 +3,9 @@ use mathlib.Core.Path.{_≡_, refl, ap, _∙_}
 use mathlib.Core.Bool.{_&&_}
 use lib.Dec.{ltb}
 use Rattle.limits.specs.Limits.{registers}
-use Rattle.format.specs.Ops.{opAt, Target as OpTarget}
-use Rattle.format.specs.Ops.Target.{noTarget, toLocation, toLine}
-use Rattle.format.specs.Format.{whenUsed, zeroUnlessUsed, usesTarget, isRegAndRest, isOperand, areOperands}
+use Rattle.program_bytes.specs.Ops.{opAt, Target as OpTarget}
+use Rattle.program_bytes.specs.Ops.Target.{noTarget, toLocation, toLine}
+use Rattle.program_bytes.specs.Format.{whenUsed, zeroUnlessUsed, usesTarget, isRegAndRest, isOperand, areOperands}
 use Rattle.format.specs.Answer.{targetMeans, targetOf, rowOf}
 use Rattle.format.specs.declared.checks.Fields.{Fields}
 use Rattle.format.specs.declared.checks.Row.{Row}

@@ -9,17 +9,17 @@ use borrow.Author.Tests.{le-leb}
 use Rattle.limits.specs.Limits.{maxLines}
 use lib.Seq.{drop-drop, getD-drop}
 use Rattle.model.specs.Program.{Line}
-use Rattle.format.specs.Outcome.{Outcome, check, andThen}
-use Rattle.format.specs.Outcome.Outcome.{refused, accepted}
-use Rattle.format.specs.Format.{isRecord, markIN, markTH, sizeIN, sizeTH, fieldsToLine, readLine, readLines, readThread}
+use Rattle.program_bytes.specs.Outcome.{Outcome, check, andThen}
+use Rattle.program_bytes.specs.Outcome.Outcome.{refused, accepted}
+use Rattle.program_bytes.specs.Format.{isRecord, markIN, markTH, sizeIN, sizeTH, fieldsToLine, readLine, readLines, readThread}
 use Rattle.format.specs.Answer.{checkOf, fieldsOf, threadOf}
 use Rattle.format.specs.declared.Check.{Check}
 use Rattle.format.specs.declared.Check.the-variants.{Passed, Failed}
 use Rattle.format.specs.declared.threads.Thread.the-variants.{Lines, Faulty}
-use Rattle.format.proofs.AcceptedThreads.{lines-read}
-use Rattle.format.proofs.OutcomeLaws.{andThen-goes-on, andThen-stops}
-use Rattle.format.proofs.RecordLaws.{record-stands}
-use Rattle.format.proofs.AcceptedLine.{line-read}
+use Rattle.program_bytes.proofs.AcceptedThreads.{lines-read}
+use Rattle.program_bytes.proofs.OutcomeLaws.{andThen-goes-on, andThen-stops}
+use Rattle.program_bytes.proofs.RecordLaws.{record-stands}
+use Rattle.program_bytes.proofs.AcceptedLine.{line-read}
 
 module _ {A : Type 0} where
   -- The check of an outcome tells which it is.

@@ -9,12 +9,12 @@ use Rattle.limits.specs.Limits.{maxThreads}
 use Rattle.model.specs.Program.{Operand as ModelOperand, Line as ModelLine, Program}
 use Rattle.model.specs.Program.Operand.{constant, register}
 use Rattle.model.specs.Program.Line.{sum, equal, less, jump, write, read, fadd, cas, wait, bcas}
-use Rattle.format.specs.Outcome.{Outcome}
-use Rattle.format.specs.Outcome.Outcome.{refused, accepted}
-use Rattle.format.specs.Ops.{Op, Target as OpTarget}
-use Rattle.format.specs.Ops.Target.{noTarget, toLocation, toLine}
-use Rattle.format.specs.Format.{sizePR, readProgram, programOf}
-use Rattle.format.specs.Layout.{startsFrom}
+use Rattle.program_bytes.specs.Outcome.{Outcome}
+use Rattle.program_bytes.specs.Outcome.Outcome.{refused, accepted}
+use Rattle.program_bytes.specs.Ops.{Op, Target as OpTarget}
+use Rattle.program_bytes.specs.Ops.Target.{noTarget, toLocation, toLine}
+use Rattle.program_bytes.specs.Format.{sizePR, readProgram, programOf}
+use Rattle.program_bytes.specs.Layout.{startsFrom}
 use Rattle.format.specs.declared.Check.{Check}
 use Rattle.format.specs.declared.Check.the-variants.{Passed, Failed}
 use Rattle.format.specs.declared.Header.{Header}

@@ -1,6 +1,1 @@
-pub mod Outcome
-pub mod Ops
-pub mod Format
-pub mod Spelling
-pub mod Layout
 pub mod Answer

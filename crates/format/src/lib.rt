@@ -12,7 +12,7 @@ ghost use mathlib.Core.Path.{_≡_};
 ghost use Prim.Native.Nat.{_<_};
 ghost use lib.ListN.{length, getD};
 ghost use Rattle.model.specs.Program.{Line as ModelLine, linesOf};
-ghost use Rattle.format.specs.Format.{areInRange, readProgram, programOf};
+ghost use Rattle.program_bytes.specs.Format.{areInRange, readProgram, programOf};
 ghost use Rattle.format.specs.Answer.{noHeader, refusal, reading, Accepted, lineMeans};
 
 // What a check says: passed, or the number of the check that failed.

@@ -8,8 +8,8 @@ use crate::checks::is_record;
 ghost use mathlib.Core.Path.{_≡_};
 ghost use Prim.Native.Nat.{_+_, _≤_};
 ghost use lib.ListN.{length, drop};
-ghost use Rattle.format.specs.Ops.{opAt};
-ghost use Rattle.format.specs.Format.{operand, readLine, readLines};
+ghost use Rattle.program_bytes.specs.Ops.{opAt};
+ghost use Rattle.program_bytes.specs.Format.{operand, readLine, readLines};
 ghost use Rattle.format.specs.Answer.{fieldsOf, operandMeans, lineMeans, checkOf};
 
 fn wide(x: u8) -> usize

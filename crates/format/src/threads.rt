@@ -9,8 +9,8 @@ ghost use mathlib.Core.Path.{_≡_};
 ghost use Prim.Native.Nat.{_≤_};
 ghost use lib.ListN.{length, drop};
 ghost use Rattle.limits.specs.Limits.{maxThreads};
-ghost use Rattle.format.specs.Outcome.{andThen};
-ghost use Rattle.format.specs.Format.{sizePR, readThread, readThreads, endsAfter};
+ghost use Rattle.program_bytes.specs.Outcome.{andThen};
+ghost use Rattle.program_bytes.specs.Format.{sizePR, readThread, readThreads, endsAfter};
 ghost use Rattle.format.specs.Answer.{threadOf, reading};
 
 // What reading a thread finds: its number of lines, or the check that failed.

@@ -1,4 +1,4 @@
-use Rattle.format.specs.Format.{areInRange}
+use Rattle.program_bytes.specs.Format.{areInRange}
 use borrow.Author.Tests.{lt-ltb, le-ltb, le-leb, lt-leb}
 use borrow.Author.Needs.{needs}
 use Rattle.format.proofs.are_in_range.Statement.{statement}

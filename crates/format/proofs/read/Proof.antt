@@ -1,8 +1,8 @@
-use Rattle.format.proofs.HeaderLaws.{in-range}
+use Rattle.program_bytes.proofs.HeaderLaws.{in-range}
 use Rattle.format.proofs.Turns.{record-fits}
 use Rattle.format.specs.Answer.{reading}
-use Rattle.format.specs.Format.{markPR, readProgram}
-use Rattle.format.specs.Outcome.{check}
+use Rattle.program_bytes.specs.Format.{markPR, readProgram}
+use Rattle.program_bytes.specs.Outcome.{check}
 use borrow.Author.Tests.{not-true, not-false}
 use denote.Ref.{now}
 use native.Mathlib.Omega.{arith}

@@ -1,7 +1,7 @@
-use Rattle.format.specs.Ops.{Target as OpTarget}
+use Rattle.program_bytes.specs.Ops.{Target as OpTarget}
 use Rattle.format.specs.Answer.{checkOf}
-use Rattle.format.specs.Outcome.{check}
-use Rattle.format.specs.Format.{fieldsToLine, isTarget}
+use Rattle.program_bytes.specs.Outcome.{check}
+use Rattle.program_bytes.specs.Format.{fieldsToLine, isTarget}
 use borrow.Author.Tests.{not-true, not-false}
 use mathlib.Core.Path.{sym, _∙_, ap}
 use Rattle.format.proofs.RowTests.{five-tests, two-tests, target-of-row}

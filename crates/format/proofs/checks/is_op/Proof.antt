@@ -1,4 +1,4 @@
-use Rattle.format.specs.Ops.{isOp, opTable, opAt, sumOp}
+use Rattle.program_bytes.specs.Ops.{isOp, opTable, opAt, sumOp}
 use borrow.Author.Tests.{lt-ltb, le-ltb, le-leb, lt-leb, eq-eqb, ne-eqb}
 use borrow.Author.Needs.{needs}
 use Rattle.format.proofs.checks.is_op.Statement.{statement}

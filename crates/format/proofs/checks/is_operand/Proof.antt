@@ -1,4 +1,4 @@
-use Rattle.format.specs.Format.{whenUsed, zeroUnlessUsed, usesTarget, isTarget, isOperand, isRegAndRest, areOperands, fieldsToLine}
+use Rattle.program_bytes.specs.Format.{whenUsed, zeroUnlessUsed, usesTarget, isTarget, isOperand, isRegAndRest, areOperands, fieldsToLine}
 use borrow.Author.Tests.{lt-ltb, le-ltb, le-leb, lt-leb, eq-eqb, ne-eqb}
 use borrow.Author.Needs.{needs}
 use Rattle.format.proofs.checks.is_operand.Statement.{statement}

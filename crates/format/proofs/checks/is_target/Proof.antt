@@ -1,5 +1,5 @@
 use Rattle.format.specs.Answer.{targetMeans, targetOf, rowOf, checkOf}
-use Rattle.format.specs.Format.{whenUsed, zeroUnlessUsed, usesTarget, isTarget, isOperand, isRegAndRest, areOperands, fieldsToLine}
+use Rattle.program_bytes.specs.Format.{whenUsed, zeroUnlessUsed, usesTarget, isTarget, isOperand, isRegAndRest, areOperands, fieldsToLine}
 use borrow.Author.Needs.{needs}
 use Rattle.format.proofs.checks.is_target.Statement.{statement}
 use Rattle.format.proofs.checks.is_target.Tie as tie

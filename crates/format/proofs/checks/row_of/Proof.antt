@@ -1,6 +1,6 @@
 use Rattle.format.proofs.FirstRow.{first-row}
 use Rattle.format.specs.Answer.{rowOf, targetOf}
-use Rattle.format.specs.Ops.{opTable, opAt, sumOp}
+use Rattle.program_bytes.specs.Ops.{opTable, opAt, sumOp}
 use mathlib.Core.Path.{sym, _∙_, ap}
 use borrow.Author.Needs.{needs}
 use Rattle.format.proofs.checks.row_of.Statement.{statement}

@@ -1,4 +1,4 @@
-use Rattle.format.specs.Format.{whenUsed, zeroUnlessUsed, usesTarget, isTarget, isOperand, isRegAndRest, areOperands, fieldsToLine}
+use Rattle.program_bytes.specs.Format.{whenUsed, zeroUnlessUsed, usesTarget, isTarget, isOperand, isRegAndRest, areOperands, fieldsToLine}
 use borrow.Author.Needs.{needs}
 use Rattle.format.proofs.checks.when_used.Statement.{statement}
 use Rattle.format.proofs.checks.when_used.Tie as tie

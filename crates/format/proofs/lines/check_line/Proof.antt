@@ -1,8 +1,8 @@
 use Rattle.format.proofs.Turns.{record-fits, line-checked}
 use Rattle.format.specs.declared.checks.Fields.{Fields}
 use Rattle.format.specs.Answer.{checkOf}
-use Rattle.format.specs.Format.{readLine, markIN, fieldsToLine}
-use Rattle.format.specs.Outcome.{check}
+use Rattle.program_bytes.specs.Format.{readLine, markIN, fieldsToLine}
+use Rattle.program_bytes.specs.Outcome.{check}
 use borrow.Author.Tests.{not-true, not-false}
 use lib.ListN.{drop}
 use denote.Ref.{now}

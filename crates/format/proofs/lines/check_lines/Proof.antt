@@ -1,6 +1,6 @@
 use Rattle.format.proofs.Turns.{lines-fail, lines-pass}
 use Rattle.format.specs.Answer.{checkOf}
-use Rattle.format.specs.Format.{readLine, readLines}
+use Rattle.program_bytes.specs.Format.{readLine, readLines}
 use lib.Seq.{drop-drop}
 use lib.ListN.{length, drop, length-drop}
 use denote.Ref.{now}

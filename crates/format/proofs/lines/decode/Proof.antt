@@ -1,6 +1,6 @@
 use Rattle.format.proofs.FirstRow.{first-row}
 use Rattle.format.specs.Answer.{lineMeans}
-use Rattle.format.specs.Ops.{opTable, opAt, sumOp}
+use Rattle.program_bytes.specs.Ops.{opTable, opAt, sumOp}
 use borrow.Author.Needs.{needs}
 use Rattle.format.proofs.lines.decode.Statement.{statement}
 use Rattle.format.proofs.lines.decode.Tie as tie

@@ -2,7 +2,7 @@ use Prim.Native.Nat.{_-_}
 use mathlib.Core.Path.{_≡_, ap}
 use native.Mathlib.Omega.{arith}
 use borrow.Author.Tests.{lt-ltb, le-ltb}
-use Rattle.format.specs.Format.{operand}
+use Rattle.program_bytes.specs.Format.{operand}
 use Rattle.format.specs.Answer.{operandMeans}
 use borrow.Author.Needs.{needs}
 use Rattle.format.proofs.lines.operand_of.Statement.{statement}

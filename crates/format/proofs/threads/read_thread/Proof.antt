@@ -1,7 +1,7 @@
 use Rattle.format.proofs.Turns.{record-fits, thread-passed, thread-failed}
 use Rattle.format.specs.Answer.{threadOf}
-use Rattle.format.specs.Format.{markTH, readThread, readLines}
-use Rattle.format.specs.Outcome.{check}
+use Rattle.program_bytes.specs.Format.{markTH, readThread, readLines}
+use Rattle.program_bytes.specs.Outcome.{check}
 use borrow.Author.Tests.{not-true, not-false, lt-leb, le-leb}
 use lib.Seq.{getD-drop, drop-drop}
 use lib.ListN.{drop, getD}

@@ -1,7 +1,7 @@
 use Rattle.format.proofs.Filling.{Ahead, restOf, emptyHeader, turn-fails, turn-passes, input-ends, input-goes-on, begins}
 use Rattle.format.specs.declared.Header.{Header}
 use Rattle.format.specs.Answer.{reading, noHeader}
-use Rattle.format.specs.Format.{sizePR, sizeTH, sizeIN}
+use Rattle.program_bytes.specs.Format.{sizePR, sizeTH, sizeIN}
 use lib.Seq.{drop-drop}
 use lib.ListN.{length, drop, getD, length-drop}
 use denote.Ref.{now}

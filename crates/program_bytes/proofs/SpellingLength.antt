@@ -6,8 +6,8 @@ use native.Mathlib.Omega.{arith}
 use lib.ListN.{length, length-append}
 use Rattle.model.specs.Program.{Line}
 use Rattle.model.specs.Program.Line.{sum, equal, less, jump, write, read, fadd, cas, wait, bcas}
-use Rattle.format.specs.Format.{sizeTH, sizeIN}
-use Rattle.format.specs.Spelling.{spellLine, spellLines, spellThread}
+use Rattle.program_bytes.specs.Format.{sizeTH, sizeIN}
+use Rattle.program_bytes.specs.Spelling.{spellLine, spellLines, spellThread}
 
 pub length-spellLine : (line : Line) → length (spellLine line) ≡ sizeIN
 unfolding spellLine

@@ -9,8 +9,8 @@ use borrow.Author.Tests.{ltb-true, leb-true, eqb-true, lt-ltb, le-ltb, le-leb}
 use Rattle.limits.specs.Limits.{registers}
 use Rattle.model.specs.Program.{Operand}
 use Rattle.model.specs.Program.Operand.{constant, register}
-use Rattle.format.specs.Format.{firstRegister, isOperand, operand, whenUsed, zeroUnlessUsed}
-use Rattle.format.specs.Spelling.{operandByte, OperandWithin}
+use Rattle.program_bytes.specs.Format.{firstRegister, isOperand, operand, whenUsed, zeroUnlessUsed}
+use Rattle.program_bytes.specs.Spelling.{operandByte, OperandWithin}
 
 -- A byte in range that is no constant is a register's.
 register-in-range : (K x : ℕ) → isOperand K x ≡ true → ltb x K ≡ false

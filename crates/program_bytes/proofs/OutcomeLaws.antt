@@ -4,8 +4,8 @@ use mathlib.Core.Bool.{Bool, true, false}
 use mathlib.Core.Logic.{_⊎_, inl, inr}
 use mathlib.Core.Path.{_≡_, refl, sym, ap}
 use native.Mathlib.Omega.{arith}
-use Rattle.format.specs.Outcome.{Outcome, check, andThen}
-use Rattle.format.specs.Outcome.Outcome.{refused, accepted}
+use Rattle.program_bytes.specs.Outcome.{Outcome, check, andThen}
+use Rattle.program_bytes.specs.Outcome.Outcome.{refused, accepted}
 
 module _ {A : Type 0} where
   pub accepted-injective : {a b : A} → accepted a ≡ accepted b → a ≡ b

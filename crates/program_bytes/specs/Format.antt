@@ -8,10 +8,10 @@ use lib.Dec.{leb, ltb, eqb}
 use Rattle.limits.specs.Limits.{maxThreads, maxLocations, minValues, maxValues, maxLines, registers}
 use Rattle.model.specs.Program.{Operand, Line, Program}
 use Rattle.model.specs.Program.Operand.{constant, register}
-use Rattle.format.specs.Outcome.{Outcome, check, andThen}
-use Rattle.format.specs.Outcome.Outcome.{refused, accepted}
-use Rattle.format.specs.Ops.{Target, Op, isOp, opAt}
-use Rattle.format.specs.Ops.Target.{noTarget, toLocation, toLine}
+use Rattle.program_bytes.specs.Outcome.{Outcome, check, andThen}
+use Rattle.program_bytes.specs.Outcome.Outcome.{refused, accepted}
+use Rattle.program_bytes.specs.Ops.{Target, Op, isOp, opAt}
+use Rattle.program_bytes.specs.Ops.Target.{noTarget, toLocation, toLine}
 
 -- "Each record starts with a two-byte mark in ASCII."
 abbrev pub markPR : List ℕ

@@ -7,14 +7,14 @@ use lib.ListN.{length}
 use borrow.Author.Tests.{le-leb}
 use Rattle.limits.specs.Limits.{minValues, maxValues, maxLines}
 use Rattle.model.specs.Program.{Line}
-use Rattle.format.specs.Outcome.Outcome.{accepted}
-use Rattle.format.specs.Format.{markTH, sizeTH, readLines, readThread, readThreads}
-use Rattle.format.specs.Spelling.{spellLine, spellLines, spellThread, spellThreads, LineWithin, ThreadWithin, All}
-use Rattle.format.specs.Spelling.All.{none, more}
-use Rattle.format.proofs.OutcomeLaws.{check-passes}
-use Rattle.format.proofs.PartsLaws.{more-read}
-use Rattle.format.proofs.RecordLaws.{record-found}
-use Rattle.format.proofs.SpelledLine.{read-line}
+use Rattle.program_bytes.specs.Outcome.Outcome.{accepted}
+use Rattle.program_bytes.specs.Format.{markTH, sizeTH, readLines, readThread, readThreads}
+use Rattle.program_bytes.specs.Spelling.{spellLine, spellLines, spellThread, spellThreads, LineWithin, ThreadWithin, All}
+use Rattle.program_bytes.specs.Spelling.All.{none, more}
+use Rattle.program_bytes.proofs.OutcomeLaws.{check-passes}
+use Rattle.program_bytes.proofs.PartsLaws.{more-read}
+use Rattle.program_bytes.proofs.RecordLaws.{record-found}
+use Rattle.program_bytes.proofs.SpelledLine.{read-line}
 
 module _ (L K : ℕ) (some-values : minValues ≤ K) (few-values : K ≤ maxValues) where
   pub read-lines : (n : ℕ) (lines : List Line) (rest : List ℕ) → All (LineWithin L K n) lines

@@ -10,14 +10,14 @@ use Rattle.limits.specs.Limits.{registers, minValues, maxValues}
 use Rattle.model.specs.Program.{Operand, Line}
 use Rattle.model.specs.Program.Operand.{constant}
 use Rattle.model.specs.Program.Line.{sum, equal, less, jump, write, read, fadd, cas, wait, bcas}
-use Rattle.format.specs.Outcome.Outcome.{accepted}
-use Rattle.format.specs.Ops.{isOp, opAt, opTable, sumOp}
-use Rattle.format.specs.Format.{markIN, sizeIN, operand, usesTarget, zeroUnlessUsed, whenUsed}
-use Rattle.format.specs.Format.{isRegAndRest, isTarget, areOperands, fieldsToLine, readLine}
-use Rattle.format.specs.Spelling.{operandByte, lineRecord, spellLine, OperandWithin, LineWithin}
-use Rattle.format.proofs.OutcomeLaws.{check-passes, andThen-goes-on}
-use Rattle.format.proofs.RecordLaws.{record-found}
-use Rattle.format.proofs.FieldLaws.{operand-byte-in-range, operand-read, passes-when-used}
+use Rattle.program_bytes.specs.Outcome.Outcome.{accepted}
+use Rattle.program_bytes.specs.Ops.{isOp, opAt, opTable, sumOp}
+use Rattle.program_bytes.specs.Format.{markIN, sizeIN, operand, usesTarget, zeroUnlessUsed, whenUsed}
+use Rattle.program_bytes.specs.Format.{isRegAndRest, isTarget, areOperands, fieldsToLine, readLine}
+use Rattle.program_bytes.specs.Spelling.{operandByte, lineRecord, spellLine, OperandWithin, LineWithin}
+use Rattle.program_bytes.proofs.OutcomeLaws.{check-passes, andThen-goes-on}
+use Rattle.program_bytes.proofs.RecordLaws.{record-found}
+use Rattle.program_bytes.proofs.FieldLaws.{operand-byte-in-range, operand-read, passes-when-used}
 
 -- Fields that pass checks 5 to 8 give the line of their op's row.
 pub fields-accepted : (L K n op reg target a b : ℕ)

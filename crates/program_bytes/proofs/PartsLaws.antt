@@ -2,10 +2,10 @@
 use Prim.Native.Nat.{ℕ}
 use mathlib.Core.List.{List, _∷_}
 use mathlib.Core.Path.{_≡_, ap, _∙_}
-use Rattle.format.specs.Outcome.{Outcome, andThen}
-use Rattle.format.specs.Outcome.Outcome.{refused, accepted}
-use Rattle.format.proofs.OutcomeLaws.{accepted-injective}
-use Rattle.format.proofs.OutcomeLaws.{andThen-goes-on, andThen-stops, andThen-accepted, andThen-assoc}
+use Rattle.program_bytes.specs.Outcome.{Outcome, andThen}
+use Rattle.program_bytes.specs.Outcome.Outcome.{refused, accepted}
+use Rattle.program_bytes.proofs.OutcomeLaws.{accepted-injective}
+use Rattle.program_bytes.proofs.OutcomeLaws.{andThen-goes-on, andThen-stops, andThen-accepted, andThen-assoc}
 
 -- One part and then the others, each read with the bytes after it.
 abbrev pub readMore : {A : Type 0} → Outcome (A × List ℕ) → (List ℕ → Outcome (List A × List ℕ))

@@ -6,7 +6,7 @@ use Rattle.limits.specs.Limits.{maxThreads, maxLocations, minValues, maxValues,
 use Rattle.model.specs.Program.{Operand, Line, Program}
 use Rattle.model.specs.Program.Operand.{constant, register}
 use Rattle.model.specs.Program.Line.{sum, equal, less, jump, write, read, fadd, cas, wait, bcas}
-use Rattle.format.specs.Format.{markPR, markTH, markIN, firstRegister}
+use Rattle.program_bytes.specs.Format.{markPR, markTH, markIN, firstRegister}
 
 -- The byte of an operand.
 unfoldable pub operandByte : Operand → ℕ

@@ -9,17 +9,17 @@ use lib.Seq.{drop-cons}
 use borrow.Author.Tests.{leb-true}
 use Rattle.limits.specs.Limits.{maxLines}
 use Rattle.model.specs.Program.{Line}
-use Rattle.format.specs.Outcome.Outcome.{accepted}
-use Rattle.format.specs.Format.{markTH, sizeTH, sizeIN, isRecord, readLines, readThread, readThreads}
-use Rattle.format.specs.Spelling.{spellLine, spellLines, spellThread, spellThreads, LineWithin, ThreadWithin}
-use Rattle.format.specs.Spelling.{All}
-use Rattle.format.specs.Spelling.All.{none, more}
-use Rattle.format.proofs.OutcomeLaws.{accepted-injective, check-accepted}
-use Rattle.format.proofs.PartsLaws.{more-accepted}
-use Rattle.format.proofs.RecordLaws.{record-stands}
-use Rattle.format.proofs.FrontLaws.{front-is-whole, after-front, fronts-join}
-use Rattle.format.proofs.SpellingLength.{length-spellLines, length-spellThread}
-use Rattle.format.proofs.AcceptedLine.{LineRead, line-read}
+use Rattle.program_bytes.specs.Outcome.Outcome.{accepted}
+use Rattle.program_bytes.specs.Format.{markTH, sizeTH, sizeIN, isRecord, readLines, readThread, readThreads}
+use Rattle.program_bytes.specs.Spelling.{spellLine, spellLines, spellThread, spellThreads, LineWithin, ThreadWithin}
+use Rattle.program_bytes.specs.Spelling.{All}
+use Rattle.program_bytes.specs.Spelling.All.{none, more}
+use Rattle.program_bytes.proofs.OutcomeLaws.{accepted-injective, check-accepted}
+use Rattle.program_bytes.proofs.PartsLaws.{more-accepted}
+use Rattle.program_bytes.proofs.RecordLaws.{record-stands}
+use Rattle.program_bytes.proofs.FrontLaws.{front-is-whole, after-front, fronts-join}
+use Rattle.program_bytes.proofs.SpellingLength.{length-spellLines, length-spellThread}
+use Rattle.program_bytes.proofs.AcceptedLine.{LineRead, line-read}
 
 -- What a number of accepted lines gives.
 pub record LinesRead (L K n count : ℕ) (bytes : List ℕ) (lines : List Line) (rest : List ℕ) : Type 0 where

@@ -7,13 +7,13 @@ use native.Mathlib.Omega.{arith}
 use lib.ListN.{length, getD, length-append}
 use Rattle.limits.specs.Limits.{maxThreads, maxLines}
 use Rattle.model.specs.Program.{Line, Program}
-use Rattle.format.specs.Outcome.Outcome.{accepted}
-use Rattle.format.specs.Format.{sizePR, sizeTH, sizeIN, readProgram}
-use Rattle.format.specs.Spelling.{spellThread, spellThreads, spell, ThreadWithin, All}
-use Rattle.format.specs.Spelling.All.{none, more}
-use Rattle.format.specs.Layout.{threadSize, startsFrom, startOf}
-use Rattle.format.proofs.SpellingLength.{length-spellThread}
-use Rattle.format.proofs.RoundTrip.{accepted-is-spelling}
+use Rattle.program_bytes.specs.Outcome.Outcome.{accepted}
+use Rattle.program_bytes.specs.Format.{sizePR, sizeTH, sizeIN, readProgram}
+use Rattle.program_bytes.specs.Spelling.{spellThread, spellThreads, spell, ThreadWithin, All}
+use Rattle.program_bytes.specs.Spelling.All.{none, more}
+use Rattle.program_bytes.specs.Layout.{threadSize, startsFrom, startOf}
+use Rattle.program_bytes.proofs.SpellingLength.{length-spellThread}
+use Rattle.program_bytes.proofs.RoundTrip.{accepted-is-spelling}
 
 pub length-startsFrom : (at : ℕ) (threads : List (List Line)) → length (startsFrom at threads) ≡ length threads
 unfolding startsFrom

@@ -7,17 +7,17 @@ use lib.ListN.{length, getD, drop, length-drop}
 use lib.Seq.{drop-drop, drop-at, getD-drop}
 use Rattle.limits.specs.Limits.{minValues, maxValues}
 use Rattle.model.specs.Program.{Line, Program, linesOf}
-use Rattle.format.specs.Outcome.Outcome.{accepted}
-use Rattle.format.specs.Format.{sizePR, sizeTH, sizeIN, readLine, readProgram}
-use Rattle.format.specs.Spelling.{spellLine, spellLines, spellThread, spellThreads, spell}
-use Rattle.format.specs.Spelling.{LineWithin}
-use Rattle.format.specs.Layout.{threadSize, startsFrom, startOf}
-use Rattle.format.proofs.AllLaws.{all-at}
-use Rattle.format.proofs.SpellingLength.{length-spellLine, length-spellThread}
-use Rattle.format.proofs.AcceptedLine.{FieldsRead, line-read}
-use Rattle.format.proofs.SpelledLine.{read-line}
-use Rattle.format.proofs.FrontLaws.{front-is-whole, drop-past-front}
-use Rattle.format.proofs.RoundTrip.{accepted-is-spelling}
+use Rattle.program_bytes.specs.Outcome.Outcome.{accepted}
+use Rattle.program_bytes.specs.Format.{sizePR, sizeTH, sizeIN, readLine, readProgram}
+use Rattle.program_bytes.specs.Spelling.{spellLine, spellLines, spellThread, spellThreads, spell}
+use Rattle.program_bytes.specs.Spelling.{LineWithin}
+use Rattle.program_bytes.specs.Layout.{threadSize, startsFrom, startOf}
+use Rattle.program_bytes.proofs.AllLaws.{all-at}
+use Rattle.program_bytes.proofs.SpellingLength.{length-spellLine, length-spellThread}
+use Rattle.program_bytes.proofs.AcceptedLine.{FieldsRead, line-read}
+use Rattle.program_bytes.proofs.SpelledLine.{read-line}
+use Rattle.program_bytes.proofs.FrontLaws.{front-is-whole, drop-past-front}
+use Rattle.program_bytes.proofs.RoundTrip.{accepted-is-spelling}
 
 -- Line i of spelled lines, and the lines after it.
 lines-from : (lines : List Line) (i : ℕ) (d : Line) (rest : List ℕ) → i < length lines
