@@ -22,7 +22,7 @@ use Rattle.program_bytes.proofs.Places.{LineStands, line-stands}
 use Rattle.program_bytes.proofs.StartLaws.{length-startsFrom}
 
 -- What fills the front of a row of zeros is read there.
-front-of-row : (width : ℕ) (l : List ℕ) (t : ℕ) → t < length l → length l ≤ width → getD (sets (replicate width 0) 0 l) t 0 ≡ getD l t 0
+pub front-of-row : (width : ℕ) (l : List ℕ) (t : ℕ) → t < length l → length l ≤ width → getD (sets (replicate width 0) 0 l) t 0 ≡ getD l t 0
 front-of-row width l t h fits =
     ap (λ (r : List ℕ). getD r t 0) (sets-eq l (replicate width 0) 0 (omega (arith, length-replicate {A = ℕ} width 0)))
     ∙ List·getD-append l _ 0 t h

@@ -4,3 +4,4 @@ pub mod RowTests
 pub mod FirstRow
 pub mod Turns
 pub mod Filling
+pub mod AcceptedHeader

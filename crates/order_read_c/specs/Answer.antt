@@ -4,17 +4,17 @@ use mathlib.Core.Bool.{Bool, cond, _&&_}
 use mathlib.Core.List.{List}
 use lib.ListN.{length, getD}
 use lib.Dec.{ltb}
-use Rattle.model.specs.Program.{Line, Program, linesOf}
-use Rattle.model.specs.Program.Operand.{constant}
-use Rattle.model.specs.Program.Line.{wait}
+use Rattle.model.specs.Program.{Operand, Line, Program, linesOf}
+use Rattle.model.specs.Program.Operand.{constant, register}
+use Rattle.model.specs.Program.Line.{sum, equal, less, jump, write, read, fadd, cas, wait, bcas}
 use Rattle.program_bytes.specs.Outcome.{Outcome}
 use Rattle.program_bytes.specs.Outcome.Outcome.{refused, accepted}
-use Rattle.program_bytes.specs.Spelling.{spellLine}
 use Rattle.format.specs.Answer.{noHeader, headerOf}
 use Rattle.format.specs.declared.Check.{Check}
 use Rattle.format.specs.declared.Check.the-variants.{Passed, Failed}
 use Rattle.format.specs.declared.Header.{Header}
 use Rattle.order_read_c.specs.declared.HeaderAnswer.{HeaderAnswer}
+use Rattle.order_read_c.specs.declared.OperandAnswer.{OperandAnswer}
 use Rattle.order_read_c.specs.declared.LineAnswer.{LineAnswer}
 
 -- 0 where the checks passed, else the number of the one that failed.
@@ -38,21 +38,37 @@ unfoldable pub headerAnswer : Outcome Program → HeaderAnswer
 headerAnswer (refused number) = withHeader number noHeader
 headerAnswer (accepted p) = withHeader 0 (headerOf p)
 
-unfoldable pub noLine : LineAnswer
-noLine = record { op = 0; reg = 0; target = 0; a = 0; b = 0 }
+-- An operand: kind 1 for a constant, 2 for a register; kind 0 for none.
+abbrev pub noOperand : OperandAnswer
+noOperand = record { kind = 0; number = 0 }
 
--- The fields of an IN record.
-unfoldable pub fieldsIn : List ℕ → LineAnswer
-fieldsIn bytes =
-    record { op = getD bytes 2 0; reg = getD bytes 3 0; target = getD bytes 4 0; a = getD bytes 5 0; b = getD bytes 6 0 }
+unfoldable pub operandAnswer : Operand → OperandAnswer
+operandAnswer (constant v) = record { kind = 1; number = v }
+operandAnswer (register r) = record { kind = 2; number = r }
 
-abbrev pub spelledLine : Line → LineAnswer
-spelledLine line = fieldsIn (spellLine line)
+abbrev pub makeLine : (op reg target : ℕ) (a b : OperandAnswer) → LineAnswer
+makeLine op reg target a b = record { op = op; reg = reg; target = target; a = a; b = b }
 
--- Line i of thread t, spelled, where the program is accepted and has one.
+abbrev pub noLine : LineAnswer
+noLine = makeLine 0 0 0 noOperand noOperand
+
+-- The op and the fields of a line.
+unfoldable pub lineFields : Line → LineAnswer
+lineFields (sum r a b) = makeLine 1 r 0 (operandAnswer a) (operandAnswer b)
+lineFields (equal r a b) = makeLine 2 r 0 (operandAnswer a) (operandAnswer b)
+lineFields (less r a b) = makeLine 3 r 0 (operandAnswer a) (operandAnswer b)
+lineFields (jump l a) = makeLine 4 0 l (operandAnswer a) noOperand
+lineFields (write x a) = makeLine 5 0 x (operandAnswer a) noOperand
+lineFields (read r x) = makeLine 6 r x noOperand noOperand
+lineFields (fadd r x a) = makeLine 7 r x (operandAnswer a) noOperand
+lineFields (cas r x a b) = makeLine 8 r x (operandAnswer a) (operandAnswer b)
+lineFields (wait x a) = makeLine 9 0 x (operandAnswer a) noOperand
+lineFields (bcas x a b) = makeLine 10 0 x (operandAnswer a) (operandAnswer b)
+
+-- Line i of thread t, where the program is accepted and has one. (The line after getD's index is never taken.)
 unfoldable pub lineAnswer : Outcome Program → (t i : ℕ) → LineAnswer
 lineAnswer (refused number) t i = noLine
 lineAnswer (accepted p) t i =
     cond (ltb t (length (p .threads)) && ltb i (length (linesOf p t)))
-    (spelledLine (getD (linesOf p t) i (wait 0 (constant 0))))
+    (lineFields (getD (linesOf p t) i (wait 0 (constant 0))))
     noLine

@@ -4,8 +4,7 @@ use format::{Check, Line, Operand};
 ghost use mathlib.Core.Path.{_≡_};
 ghost use Rattle.program_bytes.specs.Format.{readProgram};
 ghost use Rattle.format.specs.Answer.{operandMeans, lineMeans};
-ghost use Rattle.program_bytes.specs.Spelling.{operandByte};
-ghost use Rattle.order_read_c.specs.Answer.{numberOf, headerAnswer, noLine, spelledLine, lineAnswer};
+ghost use Rattle.order_read_c.specs.Answer.{numberOf, headerAnswer, noOperand, operandAnswer, makeLine, noLine, lineFields, lineAnswer};
 
 // The answer of order_read: the number of the failed check, or 0 and the program's header.
 #[repr(C)]
@@ -21,14 +20,21 @@ pub struct HeaderAnswer {
     pub counts: [usize; limits::THREADS],
 }
 
-// The answer of order_line: the fields of the line's record as in the bytes, or 0 throughout where there is no such line.
+// An operand of a line: kind 0 where the line has none, 1 for a constant, 2 for a register.
+#[repr(C)]
+pub struct OperandAnswer {
+    pub kind: usize,
+    pub number: usize,
+}
+
+// The answer of order_line: the line's op and fields, and 0 in the fields that it does not use; op 0 where there is no such line.
 #[repr(C)]
 pub struct LineAnswer {
     pub op: usize,
     pub reg: usize,
     pub target: usize,
-    pub a: usize,
-    pub b: usize,
+    pub a: OperandAnswer,
+    pub b: OperandAnswer,
 }
 
 fn failed(check: Check) -> usize
@@ -60,24 +66,77 @@ pub extern "C" fn order_read(program: &[u8]) -> HeaderAnswer
     }
 }
 
-fn no_line() -> LineAnswer
-    ensures { λ r. ⌜ r ≡ noLine ⌝ }
+fn no_operand() -> OperandAnswer
+    ensures { λ r. ⌜ r ≡ noOperand ⌝ }
 {
-    LineAnswer {
-        op: 0,
-        reg: 0,
-        target: 0,
-        a: 0,
-        b: 0,
+    OperandAnswer { kind: 0, number: 0 }
+}
+
+fn operand_of(x: Operand) -> OperandAnswer
+    ensures { λ r. ⌜ r ≡ operandAnswer (operandMeans x) ⌝ }
+{
+    match x {
+        Operand::Constant(v) => OperandAnswer { kind: 1, number: v },
+        Operand::Register(r) => OperandAnswer { kind: 2, number: r },
     }
 }
 
-fn byte_of(x: Operand) -> usize
-    requires { ⌜ operandByte (operandMeans x) < 256 ⌝ }
-    ensures { λ r. ⌜ r ≡ operandByte (operandMeans x) ⌝ }
+fn make_line(op: usize, reg: usize, target: usize, a: OperandAnswer, b: OperandAnswer) -> LineAnswer
+    ensures { λ r. ⌜ r ≡ makeLine op reg target a b ⌝ }
 {
-    match x {
-        Operand::Constant(v) => v,
-        Operand::Register(r) => 128 + r,
+    LineAnswer {
+        op,
+        reg,
+        target,
+        a,
+        b,
+    }
+}
+
+fn fields_of(line: Line) -> LineAnswer
+    ensures { λ r. ⌜ r ≡ lineFields (lineMeans line) ⌝ }
+{
+    let none = no_operand();
+    match line {
+        Line::Sum { reg, a, b } => make_line(1, reg, 0, operand_of(a), operand_of(b)),
+        Line::Equal { reg, a, b } => make_line(2, reg, 0, operand_of(a), operand_of(b)),
+        Line::Less { reg, a, b } => make_line(3, reg, 0, operand_of(a), operand_of(b)),
+        Line::Jump { target, a } => make_line(4, 0, target, operand_of(a), none),
+        Line::Write { location, a } => make_line(5, 0, location, operand_of(a), none),
+        Line::Read { reg, location } => make_line(6, reg, location, none, none),
+        Line::Fadd { reg, location, a } => make_line(7, reg, location, operand_of(a), none),
+        Line::Cas { reg, location, a, b } => make_line(8, reg, location, operand_of(a), operand_of(b)),
+        Line::Wait { location, a } => make_line(9, 0, location, operand_of(a), none),
+        Line::Bcas { location, a, b } => make_line(10, 0, location, operand_of(a), operand_of(b)),
+    }
+}
+
+fn no_line() -> LineAnswer
+    ensures { λ r. ⌜ r ≡ noLine ⌝ }
+{
+    let none = no_operand();
+    make_line(0, 0, 0, none, none)
+}
+
+// Line number `line` of thread number `thread`, both from 0, of any input.
+#[no_mangle]
+pub extern "C" fn order_line(program: &[u8], thread: usize, line: usize) -> LineAnswer
+    ensures { λ r. ⌜ r ≡ lineAnswer (readProgram (now (program .entry))) thread line ⌝ }
+{
+    let reading = format::read(program);
+    let check = reading.check;
+    let header = reading.header;
+    let counts = header.counts;
+    match check {
+        Check::Failed(_) => no_line(),
+        Check::Passed => {
+            if header.threads <= thread {
+                return no_line();
+            }
+            if counts[thread] <= line {
+                return no_line();
+            }
+            fields_of(format::line_at(program, header, thread, line))
+        }
     }
 }

@@ -6,15 +6,15 @@ use Rattle.order_read_c.proofs.order_read.Lts as lts
 use Rattle.format.proofs.read.Reads as read-reads
 use Rattle.order_read_c.proofs.failed.Reads as failed-reads
 
--- src/lib.rt:48:9
+-- src/lib.rt:54:9
 read-requires : tie.Need-read-requires
 read-requires c κs = search needs
 
--- src/lib.rt:54:17
+-- src/lib.rt:60:17
 failed-requires : tie.Need-failed-requires
 failed-requires c κs = search needs
 
--- src/lib.rt:44:1
+-- src/lib.rt:50:1
 returns : tie.Need-returns
 returns c = search needs
 

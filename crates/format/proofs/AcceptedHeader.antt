@@ -1,0 +1,58 @@
+-- What the reader's answer tells its callers: an accepted input, and what its header holds.
+use Prim.Native.Nat.{ℕ, _≤_, _<_}
+use native.Mathlib.Omega.{arith}
+use mathlib.Core.Path.{_≡_, refl, ap, sym, _∙_}
+use mathlib.Core.List.{List, [], map}
+use lib.ListN.{length, getD, replicate, length-map, List·getD-map}
+use Rattle.limits.specs.Limits.{maxThreads}
+use Rattle.model.specs.Program.{Line, Program, linesOf}
+use Rattle.program_bytes.specs.Outcome.{Outcome}
+use Rattle.program_bytes.specs.Outcome.Outcome.{refused, accepted}
+use Rattle.program_bytes.specs.Spelling.{Within}
+use Rattle.program_bytes.specs.Format.{readProgram, programIn, programOf}
+use Rattle.format.specs.Answer.{Accepted, reading, headerOf}
+use Rattle.format.specs.declared.Check.the-variants.{Passed, Failed}
+use Rattle.format.specs.declared.Header.{Header}
+use Rattle.format.specs.declared.Reading.{Reading}
+use Rattle.program_bytes.proofs.RoundTrip.{accepted-is-spelling}
+use Rattle.format.proofs.AcceptedLines.{front-of-row}
+
+outcome-passed : (o : Outcome Program) → reading o .check ≡ Passed
+    → (o ≡ accepted (programIn o)) × (reading o .header ≡ headerOf (programIn o))
+unfolding reading programIn
+outcome-passed (refused k) e = absurd (let z : _≡_ {A = ℕ} 0 1 = cc in omega arith)
+outcome-passed (accepted p) e = (refl, refl)
+
+-- Where the reader's check passed, the input is accepted and the header is its program's.
+pub passed-is-accepted : (bytes : List ℕ) (r : Reading) → r ≡ reading (readProgram bytes) → r .check ≡ Passed
+    → Accepted bytes (r .header)
+passed-is-accepted bytes r e passed =
+    let (p, h) = outcome-passed (readProgram bytes) (ap (λ (x : Reading). x .check) (sym e) ∙ passed) in
+    record { program = p; header = ap (λ (x : Reading). x .header) e ∙ h }
+
+module _ (bytes : List ℕ) (h : Header) (is : Accepted bytes h) where
+  -- The program is within the limits.
+  pub accepted-within : Within (programOf bytes)
+  accepted-within = accepted-is-spelling bytes (programOf bytes) (is .program) .1
+
+  pub threads-counted : h .threads ≡ length (programOf bytes .threads)
+  unfolding headerOf
+  threads-counted = ap (λ (x : Header). x .threads) (is .header)
+
+  pub locations-counted : h .locations ≡ programOf bytes .locations
+  unfolding headerOf
+  locations-counted = ap (λ (x : Header). x .locations) (is .header)
+
+  pub values-counted : h .values ≡ programOf bytes .values
+  unfolding headerOf
+  values-counted = ap (λ (x : Header). x .values) (is .header)
+
+  -- The number of lines of each thread.
+  pub lines-counted : (t : ℕ) → t < length (programOf bytes .threads) → getD (h .counts) t 0 ≡ length (linesOf (programOf bytes) t)
+  unfolding headerOf
+  lines-counted t less =
+      let threads = programOf bytes .threads in
+      let long = length-map threads length in
+      ap (λ (x : Header). getD (x .counts) t 0) (is .header)
+      ∙ front-of-row maxThreads (map length threads) t (omega (arith, long)) (omega (arith, long, accepted-within .few-threads))
+      ∙ List·getD-map length threads t []
