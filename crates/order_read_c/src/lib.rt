@@ -1,6 +1,7 @@
 // The reader for C and Rust: a static library of two functions.
-use format::{Check, Line, Operand};
-
+use format::Check;
+use format::Line;
+use format::Operand;
 ghost use mathlib.Core.Path.{_≡_};
 ghost use Rattle.program_bytes.specs.Format.{readProgram};
 ghost use Rattle.format.specs.Answer.{operandMeans, lineMeans};
@@ -105,7 +106,12 @@ fn fields_of(line: Line) -> LineAnswer
         Line::Write { location, a } => make_line(5, 0, location, operand_of(a), none),
         Line::Read { reg, location } => make_line(6, reg, location, none, none),
         Line::Fadd { reg, location, a } => make_line(7, reg, location, operand_of(a), none),
-        Line::Cas { reg, location, a, b } => make_line(8, reg, location, operand_of(a), operand_of(b)),
+        Line::Cas {
+            reg,
+            location,
+            a,
+            b,
+        } => make_line(8, reg, location, operand_of(a), operand_of(b)),
         Line::Wait { location, a } => make_line(9, 0, location, operand_of(a), none),
         Line::Bcas { location, a, b } => make_line(10, 0, location, operand_of(a), operand_of(b)),
     }

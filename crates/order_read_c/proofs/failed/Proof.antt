@@ -1,3 +1,7 @@
+use Prim.Native.Nat.{ℕ}
+use mathlib.Core.Path.{_≡_, refl, sym, _∙_, ap}
+use Rattle.format.specs.Answer.{operandMeans, lineMeans}
+use Rattle.order_read_c.specs.Answer.{numberOf, withHeader, headerAnswer, noOperand, operandAnswer, makeLine, noLine, lineFields, lineAnswer}
 use borrow.Author.Needs.{needs}
 use Rattle.order_read_c.proofs.failed.Statement.{statement}
 use Rattle.order_read_c.proofs.failed.Tie as tie
@@ -18,11 +22,15 @@ cast-result c = search needs
 
 -- src/lib.rt:40:1
 returns : tie.Need-returns
-returns c = search needs
+unfolding numberOf
+returns c =
+    rw (c .enum-told .given .1)
 
 -- src/lib.rt:40:1
 returns-2 : tie.Need-returns-2
-returns-2 c = search needs
+unfolding numberOf
+returns-2 c =
+    rw (c .before .check .given .1)
 
 pub failed-spec : {M : Type 1} → statement M
 failed-spec = tie.close (tie.spec enum-told enum-known-check cast-result returns returns-2)

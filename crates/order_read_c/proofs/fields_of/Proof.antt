@@ -1,3 +1,6 @@
+use mathlib.Core.Path.{_≡_, refl, sym, _∙_, ap}
+use Rattle.format.specs.Answer.{operandMeans, lineMeans}
+use Rattle.order_read_c.specs.Answer.{operandAnswer, makeLine, noLine, lineFields, lineAnswer}
 use borrow.Author.Needs.{needs}
 use Rattle.order_read_c.proofs.fields_of.Statement.{statement}
 use Rattle.order_read_c.proofs.fields_of.Tie as tie
@@ -149,43 +152,63 @@ make-line-requires-10 c κs = search needs
 
 -- src/lib.rt:96:1
 returns : tie.Need-returns
-returns c = search needs
+unfolding lineFields lineMeans
+returns c =
+    c .make-line .ensures ∙ rw (c .before .before .before .before .line .given .1, c .before .before .operand-of .ensures, c .before .operand-of2 .ensures)
 
 -- src/lib.rt:96:1
 returns-2 : tie.Need-returns-2
-returns-2 c = search needs
+unfolding lineFields lineMeans
+returns-2 c =
+    c .make-line2 .ensures ∙ rw (c .before .before .before .before .line2 .given .1, c .before .before .operand-of3 .ensures, c .before .operand-of4 .ensures)
 
 -- src/lib.rt:96:1
 returns-3 : tie.Need-returns-3
-returns-3 c = search needs
+unfolding lineFields lineMeans
+returns-3 c =
+    c .make-line3 .ensures ∙ rw (c .before .before .before .before .line3 .given .1, c .before .before .operand-of5 .ensures, c .before .operand-of6 .ensures)
 
 -- src/lib.rt:96:1
 returns-4 : tie.Need-returns-4
-returns-4 c = search needs
+unfolding lineFields lineMeans
+returns-4 c =
+    c .make-line4 .ensures ∙ rw (c .before .before .before .line4 .given .1, c .before .operand-of7 .ensures, c .before .before .before .before .before .no-operand .ensures)
 
 -- src/lib.rt:96:1
 returns-5 : tie.Need-returns-5
-returns-5 c = search needs
+unfolding lineFields lineMeans
+returns-5 c =
+    c .make-line5 .ensures ∙ rw (c .before .before .before .line5 .given .1, c .before .operand-of8 .ensures, c .before .before .before .before .before .no-operand .ensures)
 
 -- src/lib.rt:96:1
 returns-6 : tie.Need-returns-6
-returns-6 c = search needs
+unfolding lineFields lineMeans
+returns-6 c =
+    c .make-line6 .ensures ∙ rw (c .before .before .line6 .given .1, c .before .before .before .before .no-operand .ensures)
 
 -- src/lib.rt:96:1
 returns-7 : tie.Need-returns-7
-returns-7 c = search needs
+unfolding lineFields lineMeans
+returns-7 c =
+    c .make-line7 .ensures ∙ rw (c .before .before .before .line7 .given .1, c .before .operand-of9 .ensures, c .before .before .before .before .before .no-operand .ensures)
 
 -- src/lib.rt:96:1
 returns-8 : tie.Need-returns-8
-returns-8 c = search needs
+unfolding lineFields lineMeans
+returns-8 c =
+    c .make-line8 .ensures ∙ rw (c .before .before .before .before .line8 .given .1, c .before .before .operand-of10 .ensures, c .before .operand-of11 .ensures)
 
 -- src/lib.rt:96:1
 returns-9 : tie.Need-returns-9
-returns-9 c = search needs
+unfolding lineFields lineMeans
+returns-9 c =
+    c .make-line9 .ensures ∙ rw (c .before .before .before .line9 .given .1, c .before .operand-of12 .ensures, c .before .before .before .before .before .no-operand .ensures)
 
 -- src/lib.rt:96:1
 returns-10 : tie.Need-returns-10
-returns-10 c = search needs
+unfolding lineFields lineMeans
+returns-10 c =
+    c .make-line10 .ensures ∙ rw (c .before .before .before .before .line10 .given .1, c .before .before .operand-of13 .ensures, c .before .operand-of14 .ensures)
 
 pub fields-of-spec : {M : Type 1} → statement M
 fields-of-spec =
