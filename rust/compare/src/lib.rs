@@ -5,6 +5,15 @@ mod library;
 
 use second::read;
 
+/// What the proved reader says of program bytes: T, L and K, or the number of the first failed check.
+pub fn verdict(bytes: &[u8]) -> Result<[usize; 3], usize> {
+    let header = library::header(bytes);
+    match header.number {
+        0 => Ok([header.threads, header.locations, header.values]),
+        number => Err(number),
+    }
+}
+
 /// Where the library answers otherwise than the second program, if it does: on the header, on any line, or on a line
 /// that is not there.
 pub fn difference(bytes: &[u8]) -> Option<String> {

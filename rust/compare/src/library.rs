@@ -1,38 +1,58 @@
 //! The two functions of `liborder_read_c.a`, safe to call.
 
-/// What `order_read` writes: 0 or the number of the failed check, T, L, K, then for each of eight threads the byte at
-/// which its first line record starts, then for each its number of lines. All that is not used is 0.
-pub type Header = [u64; 20];
+/// As many threads as a program has at most.
+pub const THREADS: usize = 8;
 
-/// Where the starts of the threads stand in a header.
-pub const STARTS: usize = 4;
-
-/// Where the numbers of lines stand in a header.
-pub const COUNTS: usize = 12;
-
-/// What `order_line` writes: op, reg, target, A, B as in the bytes, or 0 where there is no such line.
-pub type Fields = [u64; 5];
-
-extern "C" {
-    fn order_read(program: *const u8, len: usize, header: *mut Header);
-    fn order_line(program: *const u8, len: usize, thread: usize, line: usize, fields: *mut Fields);
+/// What `order_read` answers.
+#[repr(C)]
+#[derive(Debug, Default, PartialEq)]
+pub struct Header {
+    /// 0, or the number of the first failed check.
+    pub number: usize,
+    /// T; 0 where the program is refused, as all that follows.
+    pub threads: usize,
+    /// L.
+    pub locations: usize,
+    /// K.
+    pub values: usize,
+    /// For each thread the byte at which its first line record starts.
+    pub starts: [usize; THREADS],
+    /// For each thread its number of lines.
+    pub counts: [usize; THREADS],
 }
 
-/// Stands where the library is to write, so that what it leaves out is seen.
-const UNWRITTEN: u64 = u64::MAX;
+/// An operand: kind 0 where the line has none, 1 for a constant, 2 for a register.
+#[repr(C)]
+#[derive(Debug, Default, PartialEq)]
+pub struct Operand {
+    pub kind: usize,
+    pub number: usize,
+}
+
+/// What `order_line` answers: 0 throughout where there is no such line.
+#[repr(C)]
+#[derive(Debug, Default, PartialEq)]
+pub struct Fields {
+    pub op: usize,
+    pub reg: usize,
+    pub target: usize,
+    pub a: Operand,
+    pub b: Operand,
+}
+
+extern "C" {
+    fn order_read(program: *const u8, len: usize) -> Header;
+    fn order_line(program: *const u8, len: usize, thread: usize, line: usize) -> Fields;
+}
 
 /// What the library says of a program.
 pub fn header(program: &[u8]) -> Header {
-    let mut header = [UNWRITTEN; 20];
-    // SAFETY: the library reads `len` bytes and writes 20 numbers, and keeps neither pointer.
-    unsafe { order_read(program.as_ptr(), program.len(), &mut header) };
-    header
+    // SAFETY: the library reads `len` bytes from the pointer and keeps nothing.
+    unsafe { order_read(program.as_ptr(), program.len()) }
 }
 
 /// What the library says of a line; threads and lines count from 0.
 pub fn line(program: &[u8], thread: usize, line: usize) -> Fields {
-    let mut fields = [UNWRITTEN; 5];
-    // SAFETY: the library reads `len` bytes and writes 5 numbers, and keeps neither pointer.
-    unsafe { order_line(program.as_ptr(), program.len(), thread, line, &mut fields) };
-    fields
+    // SAFETY: as above.
+    unsafe { order_line(program.as_ptr(), program.len(), thread, line) }
 }

@@ -1,0 +1,42 @@
+//! `order_read [FILE]`: what the proved reader says of program bytes, of a file or of standard input.
+
+use std::io::{self, Read};
+use std::process::ExitCode;
+use std::{env, fs};
+
+fn main() -> ExitCode {
+    let mut arguments = env::args().skip(1);
+    let (file, rest) = (arguments.next(), arguments.next());
+    if rest.is_some() || matches!(file.as_deref(), Some("--help" | "-h")) {
+        eprintln!("usage: order_read [FILE]\nReads program bytes and says whether the reader accepts them.");
+        return ExitCode::from(2);
+    }
+    let bytes = match file.as_deref() {
+        None | Some("-") => read_all(),
+        Some(path) => fs::read(path).map_err(|error| format!("{path}: {error}")),
+    };
+    match bytes {
+        Err(message) => {
+            eprintln!("order_read: {message}");
+            ExitCode::FAILURE
+        }
+        Ok(bytes) => match compare::verdict(&bytes) {
+            Ok([threads, locations, values]) => {
+                println!("accepted: threads {threads}, locations {locations}, values {values}");
+                ExitCode::SUCCESS
+            }
+            Err(number) => {
+                println!("NO {number}");
+                ExitCode::FAILURE
+            }
+        },
+    }
+}
+
+fn read_all() -> Result<Vec<u8>, String> {
+    let mut bytes = Vec::new();
+    match io::stdin().read_to_end(&mut bytes) {
+        Ok(_) => Ok(bytes),
+        Err(error) => Err(format!("standard input: {error}")),
+    }
+}
