@@ -1,1 +1,6 @@
 pub mod Program
+pub mod Thread
+pub mod Graph
+pub mod Order
+pub mod Run
+pub mod Witness
