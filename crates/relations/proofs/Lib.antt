@@ -1,3 +1,4 @@
 pub mod Laws
 pub mod Sink
 pub mod Decide
+pub mod Lists
