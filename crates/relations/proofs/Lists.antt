@@ -52,6 +52,11 @@ module _ {A : Type 0} where
   row-in-range (r ∷ ls) zero l a m h = omega arith
   row-in-range (r ∷ ls) (suc i) l a m h = let s : i < length ls = row-in-range ls i l a m h in omega arith
 
+  pub filled-row-in-range : (ls : List (List A)) (i : ℕ) {n : ℕ} → n < length (getD ls i []) → i < length ls
+  filled-row-in-range [] i h = absurd (omega arith)
+  filled-row-in-range (r ∷ ls) zero h = omega arith
+  filled-row-in-range (r ∷ ls) (suc i) h = let s : i < length ls = filled-row-in-range ls i h in omega arith
+
   -- Lists by their last element.
   snoc-not-nil : (l : List A) (a : A) → [] ≡ l ++ a ∷ [] → ⊥
   snoc-not-nil [] a h = nil≢cons h
@@ -143,6 +148,11 @@ module _ {A : Type 0} where
   member-of-flat [] h k = absurd (List·Memᴰ·not-nil k)
   member-of-flat (r ∷ ls) {a} h k =
       ⊎-elim (λ q. Memᴰ·append-left _ (subst (Member a) q h)) (λ p. Memᴰ·append-right r (member-of-flat ls h p)) (List·Memᴰ·cases-cons k)
+
+  pub member-in-range : (ls : List (List A)) (i : ℕ) {a : A} → Member a (getD ls i []) → i < length ls
+  member-in-range [] i m = absurd (List·Memᴰ·not-nil m)
+  member-in-range (r ∷ ls) zero m = omega arith
+  member-in-range (r ∷ ls) (suc i) m = let s : i < length ls = member-in-range ls i m in omega arith
 
   pub member-row : (ls : List A) (i : ℕ) (d : A) → i < length ls → Member (getD ls i d) ls
   member-row [] i d h = absurd (omega arith)

@@ -3,3 +3,7 @@ pub mod Growth
 pub mod WellFormed
 pub mod Start
 pub mod Sinks
+pub mod Decidable
+pub mod NewEdges
+pub mod Reachable
+pub mod NotRobust

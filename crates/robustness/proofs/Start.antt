@@ -13,7 +13,10 @@ use Rattle.relations.proofs.Decide.{precedes-cases, precedes-not-nil}
 use Rattle.relations.proofs.Lists.{length-of-snoc, place-in-range}
 use Rattle.model.specs.Program.{Program, Line}
 use Rattle.model.specs.Graph.{Id, start, event, Event, writeE, Graph, eventsOf, order, eventAt, below, locationOf, sourceOf, startGraph}
-use Rattle.robustness.proofs.Lookup.{start-there, start-is}
+use Rattle.relations.proofs.Laws.{first-edge}
+use Rattle.model.specs.Order.{ThreadOrder, starting, within, ModificationOrder, at, HappensEdge, threadOrder, readsFrom}
+use Rattle.model.specs.Order.{ScEdge, happensBefore, modificationOrder, fromRead, ScOrder}
+use Rattle.robustness.proofs.Lookup.{start-there, start-is, reading-event}
 use Rattle.robustness.proofs.WellFormed.{writesTo, WriteTo, WellFormed}
 
 pub length-below : (n : ℕ) → length (below n) ≡ n
@@ -106,3 +109,30 @@ module _ (p : Program) where
 
       alone : (x : ℕ) (a : Id) → Precedes a a (start x ∷ []) → ⊥
       alone x a h = ⊎-elim (λ q. List·Memᴰ·not-nil (q .1)) precedes-not-nil (precedes-cases h)
+
+  -- Nothing comes before anything.
+  no-thread-order : {a b : Id} → ThreadOrder (startGraph p) a b → ⊥
+  no-thread-order (starting {t = t} l h) = omega (arith, ap length (start-events t))
+  no-thread-order (within {t = t} l h) = omega (arith, ap length (start-events t))
+
+  no-happens : (a b : Id) → HappensEdge (startGraph p) a b → ⊥
+  unfolding sourceOf
+  no-happens a b (threadOrder h) = no-thread-order h
+  no-happens a b (readsFrom h) =
+      let e = reading-event (startGraph p) b h in
+      let q = sym (ap (λ v. sourceOf (some v)) (start-event-is b (e .1) .2)) ∙ e .2 in
+      let z : _≡_ {A = ℕ} 0 1 = cc q in
+      omega arith
+
+  no-modification-order : {a b : Id} → ModificationOrder (startGraph p) a b → ⊥
+  no-modification-order {a} {b} (at x h) =
+      ⊎-elim (λ o. ⊎-elim (λ q. List·Memᴰ·not-nil (q .1)) precedes-not-nil (precedes-cases (subst (Precedes a b) (o .1) h)))
+      (λ o. precedes-not-nil (subst (Precedes a b) o h)) (start-orders x)
+
+  no-sc-edge : (a b : Id) → ScEdge (startGraph p) a b → ⊥
+  no-sc-edge a b (happensBefore h) = let e = first-edge h in no-happens a (e .0) (e .1)
+  no-sc-edge a b (modificationOrder h) = no-modification-order h
+  no-sc-edge a b (fromRead r) = no-modification-order (r .later)
+
+  pub start-acyclic : (a b : Id) → ScOrder (startGraph p) a b → ⊥
+  start-acyclic a b h = let e = first-edge h in no-sc-edge a (e .0) (e .1)

@@ -1,0 +1,59 @@
+-- The edges of the event that an access adds.
+use mathlib.Core.Path.{_≡_, refl, sym, ap, _∙_, subst⁻¹}
+use mathlib.Core.Bool.{true, false}
+use mathlib.Core.List.{List, [], _∷_, _++_, List·Memᴰ as Member, List·Memᴰ·tail, Memᴰ·append-right}
+use mathlib.Core.Option.{some}
+use mathlib.Core.Logic.{⊎-elim}
+use Prim.Native.Nat.{ℕ, _<_}
+use native.Mathlib.Omega.{arith}
+use lib.ListN.{length}
+use Rattle.relations.specs.Closure.{Precedes}
+use Rattle.relations.proofs.Lists.{precedes-after, length-of-snoc}
+use Rattle.model.specs.Thread.{Action, reads, writes, updates}
+use Rattle.model.specs.Graph.{Id, Graph, eventsOf, order, sourceOf, eventOf, threadEvents}
+use Rattle.model.specs.Order.{ThreadOrder, within, at, ScEdge, modificationOrder, fromRead}
+use Rattle.model.specs.Run.{writing}
+use Rattle.robustness.proofs.Lookup.{place-of-own, own-events}
+use Rattle.robustness.proofs.Growth.{Addition, newId, newEvent, newOrder, grown, upToPicked, order-here, order-written, writing-cases}
+use Rattle.robustness.proofs.Growth.{new-there, precedes-stays}
+use Rattle.robustness.proofs.WellFormed.{WellFormed, listed-not-next}
+
+-- An access that does not write reads.
+pub unwriting-reads : (a : Action) (x u : ℕ) (w : Id) → writing a ≡ false → sourceOf (some (eventOf a x u w)) ≡ some w
+unfolding writing sourceOf eventOf
+unwriting-reads reads x u w h = refl
+unwriting-reads (writes v) x u w h = absurd (let z : _≡_ {A = ℕ} 0 1 = cc in omega arith)
+unwriting-reads (updates v) x u w h = absurd (let z : _≡_ {A = ℕ} 0 1 = cc in omega arith)
+
+-- The new event comes after the events of its thread,
+module _ {g : Graph} (d : Addition g) where
+  pub own-before-new : {a : Id} → Member a (threadEvents g (d .thread)) → ThreadOrder (grown d) a (newId d)
+  own-before-new m =
+      let r = place-of-own g (d .thread) m in
+      let k : length (eventsOf g (d .thread)) < length (eventsOf (grown d) (d .thread)) = omega
+              (arith, ap length (own-events g (d .thread) (newEvent d) (d .location) (newOrder d) (d .hasThread)),
+              length-of-snoc (eventsOf g (d .thread)) (newEvent d)) in
+      subst⁻¹ (λ a. ThreadOrder (grown d) a (newId d)) (r .2) (within (r .1) k)
+
+-- and before what stood after the write that it picked.
+module _ {g : Graph} (f : WellFormed g) (d : Addition g) where
+  pub new-before-later : {v : Id} → Member v (d .after) → ScEdge (grown d) (newId d) v
+  new-before-later {v} m = ⊎-elim writes′ reads′ (writing-cases (d .action))
+    where
+      writes′ : writing (d .action) ≡ true → ScEdge (grown d) (newId d) v
+      writes′ w =
+          modificationOrder
+          (at (d .location) (subst⁻¹ (Precedes (newId d) v) (order-here d ∙ order-written d w) (precedes-after (upToPicked d) (newId d) m)))
+
+      listed : Member v (order g (d .location))
+      listed = subst⁻¹ (Member v) (d .split) (Memᴰ·append-right (d .before) (List·Memᴰ·tail m))
+
+      reads′ : writing (d .action) ≡ false → ScEdge (grown d) (newId d) v
+      reads′ w =
+          fromRead
+          (record
+          { source = d .picked
+          ; read = ap sourceOf (new-there d) ∙ unwriting-reads (d .action) (d .location) _ (d .picked) w
+          ; later = at (d .location) (precedes-stays d (d .location) (subst⁻¹ (Precedes (d .picked) v) (d .split) (precedes-after (d .before) (d .picked) m)))
+          ; other = λ q. listed-not-next f (d .thread) (d .location) v listed (sym q)
+          })
