@@ -75,11 +75,17 @@ module _ {A : Type 0} where
     pub final : A
     pub whole : l ≡ front ++ final ∷ []
 
+  cons-has-last : (a : A) {l : List A} → (l ≡ []) ⊎ Snoc l → Snoc (a ∷ l)
+  cons-has-last a (inl q) = record { front = []; final = a; whole = ap (λ m. a ∷ m) q }
+  cons-has-last a (inr r) = record { front = a ∷ r .front; final = r .final; whole = ap (λ m. a ∷ m) (r .whole) }
+
   pub empty-or-snoc : (l : List A) → (l ≡ []) ⊎ Snoc l
   empty-or-snoc [] = inl refl
-  empty-or-snoc (a ∷ l) =
-      inr (⊎-elim (λ q. record { front = []; final = a; whole = ap (λ m. a ∷ m) q })
-      (λ r. record { front = a ∷ r .front; final = r .final; whole = ap (λ m. a ∷ m) (r .whole) }) (empty-or-snoc l))
+  empty-or-snoc (a ∷ l) = inr (cons-has-last a (empty-or-snoc l))
+
+  pub split-has-last : (l : List A) (a : A) (m : List A) → Snoc (l ++ a ∷ m)
+  split-has-last [] a m = cons-has-last a (empty-or-snoc m)
+  split-has-last (b ∷ l) a m = cons-has-last b (inr (split-has-last l a m))
 
   pub regroup-snoc : (l : List A) (w : A) (m : List A) (a : A) → l ++ w ∷ (m ++ a ∷ []) ≡ (l ++ w ∷ m) ++ a ∷ []
   regroup-snoc l w m a = sym (append-assoc l (w ∷ m) (a ∷ []))

@@ -7,3 +7,6 @@ pub mod Decidable
 pub mod NewEdges
 pub mod Reachable
 pub mod NotRobust
+pub mod Exchange
+pub mod PlainWrite
+pub mod Swaps
