@@ -144,10 +144,10 @@ module _ {A : Type 0} where
   precedes-after [] a h = here refl h
   precedes-after (c ∷ l) a h = later (precedes-after l a h)
 
-  pub precedes-to-last : (l : List A) (b : A) {a : A} → Member a l → Precedes a b (l ++ b ∷ [])
-  precedes-to-last [] b h = absurd (List·Memᴰ·not-nil h)
-  precedes-to-last (c ∷ l) b h =
-      ⊎-elim (λ q. here q (member-put-in l b [])) (λ p. later (precedes-to-last l b p)) (List·Memᴰ·cases-cons h)
+  pub precedes-put-in : (l : List A) (b : A) (m : List A) {a : A} → Member a l → Precedes a b (l ++ b ∷ m)
+  precedes-put-in [] b m h = absurd (List·Memᴰ·not-nil h)
+  precedes-put-in (c ∷ l) b m h =
+      ⊎-elim (λ q. here q (member-put-in l b m)) (λ p. later (precedes-put-in l b m p)) (List·Memᴰ·cases-cons h)
 
   pub member-of-flat : (ls : List (List A)) {a : A} {l : List A} → Member a l → Member l ls → Member a (flatten ls)
   unfolding flatten

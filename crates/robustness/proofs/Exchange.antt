@@ -59,9 +59,7 @@ module _ {p : Program} {s : State} {q t : ℕ} (f : Good p s) (a : Access p s q)
         }
 
   -- What the earlier access finds when it is made after the later one, and that the two orders come out the same.
-  pub record Swap : Type 0 where
-    pub earlier : List Id
-    pub split : order (s .graph) (b .location) ≡ b .before ++ b .picked ∷ earlier
+  pub record Swap (earlier : List Id) (split : order (s .graph) (b .location) ≡ b .before ++ b .picked ∷ earlier) : Type 0 where
     pub front : List Id
     pub final : Id
     pub found : order (stateAfter (pulled earlier split) .graph) (a .location) ≡ front ++ final ∷ []
@@ -76,11 +74,8 @@ module _ {p : Program} {s : State} {q t : ℕ} (f : Good p s) (a : Access p s q)
         (set (s .graph .orders) (a .location) (a .before ++ a .picked ∷ directlyAfter (a .effect .action) (nextId (s .graph) q) (a .after)))
         (b .location) (b .before ++ b .picked ∷ directlyAfter (b .effect .action) (nextId (s .graph) t) (b .after))
 
-  module _ (w : Swap) where
-    pub first : Access p s t
-    first = pulled (w .earlier) (w .split)
-
-    pub second : Access p (stateAfter (pulled (w .earlier) (w .split))) q
+  module _ (earlier : List Id) (split : order (s .graph) (b .location) ≡ b .before ++ b .picked ∷ earlier) (w : Swap earlier split) where
+    unfoldable pub second : Access p (stateAfter (pulled earlier split)) q
     unfolding stateAfter
     second =
         record
@@ -103,7 +98,7 @@ module _ {p : Program} {s : State} {q t : ℕ} (f : Good p s) (a : Access p s q)
         threads = set-comm (s .threads) t q (b .effect .after) (a .effect .after) (λ k. n (sym k))
 
         here : Graph
-        here = stateAfter (pulled (w .earlier) (w .split)) .graph
+        here = stateAfter (pulled earlier split) .graph
 
         between : Event → List Id → Graph
         between e l = extend here q e (a .location) l
@@ -121,18 +116,18 @@ module _ {p : Program} {s : State} {q t : ℕ} (f : Good p s) (a : Access p s q)
         placeA = a .before ++ a .picked ∷ directlyAfter (a .effect .action) (nextId (s .graph) q) (a .after)
 
         idA : nextId here q ≡ nextId (s .graph) q
-        idA = ap (λ es. event q (length es)) (other-events (s .graph) t newB (b .location) (placeB (w .earlier)) q n)
+        idA = ap (λ es. event q (length es)) (other-events (s .graph) t newB (b .location) (placeB earlier) q n)
 
         idB : nextId (s .graph) t ≡ nextId (stateAfter a .graph) t
         idB = ap (λ es. event t (length es)) (sym (other-events (s .graph) q newA (a .location) placeA t (λ k. n (sym k))))
 
         valueB : valueOf (s .graph) (b .picked) ≡ valueOf (stateAfter a .graph) (b .picked)
-        valueB = sym (value-unmoved (subst⁻¹ (Member (b .picked)) (w .split) (member-put-in (b .before) (b .picked) (w .earlier))))
+        valueB = sym (value-unmoved (subst⁻¹ (Member (b .picked)) split (member-put-in (b .before) (b .picked) earlier)))
 
         graph : graphAfter second ≡ graphAfter b
         graph =
             (λ i. between (w .sameEvent i) (w .front ++ w .final ∷ directlyAfter (a .effect .action) (idA i) []))
-            ∙ extend-commutes (s .graph) t q newB newA (b .location) (a .location) (placeB (w .earlier)) (placeB (b .after))
+            ∙ extend-commutes (s .graph) t q newB newA (b .location) (a .location) (placeB earlier) (placeB (b .after))
             (w .front ++ w .final ∷ directlyAfter (a .effect .action) (nextId (s .graph) q) []) placeA (λ k. n (sym k)) (w .sameOrders)
             ∙ (λ i. extend (stateAfter a .graph) t (eventOf (b .effect .action) (b .location) (valueB i) (b .picked)) (b .location)
             (b .before ++ b .picked ∷ directlyAfter (b .effect .action) (idB i) (b .after)))

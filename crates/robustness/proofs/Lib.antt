@@ -7,6 +7,8 @@ pub mod Decidable
 pub mod NewEdges
 pub mod Reachable
 pub mod NotRobust
+pub mod Seen
 pub mod Exchange
 pub mod PlainWrite
 pub mod Swaps
+pub mod Diamond

@@ -7,11 +7,11 @@ use mathlib.Core.Logic.{⊎-elim}
 use Prim.Native.Nat.{ℕ, _<_}
 use native.Mathlib.Omega.{arith}
 use lib.ListN.{length}
-use Rattle.relations.specs.Closure.{Precedes}
-use Rattle.relations.proofs.Lists.{precedes-after, length-of-snoc}
+use Rattle.relations.specs.Closure.{Precedes, edge}
+use Rattle.relations.proofs.Lists.{precedes-after, precedes-put-in, member-put-in, length-of-snoc}
 use Rattle.model.specs.Thread.{Action, reads, writes, updates}
 use Rattle.model.specs.Graph.{Id, Graph, eventsOf, order, sourceOf, eventOf, threadEvents}
-use Rattle.model.specs.Order.{ThreadOrder, within, at, ScEdge, modificationOrder, fromRead}
+use Rattle.model.specs.Order.{ThreadOrder, within, ReadsFrom, ModificationOrder, at, readsFrom, ScEdge, happensBefore, modificationOrder, fromRead}
 use Rattle.model.specs.Run.{writing}
 use Rattle.robustness.proofs.Lookup.{place-of-own, own-events}
 use Rattle.robustness.proofs.Growth.{Addition, newId, newEvent, newOrder, grown, upToPicked, order-here, order-written, writing-cases}
@@ -35,6 +35,21 @@ module _ {g : Graph} (d : Addition g) where
               length-of-snoc (eventsOf g (d .thread)) (newEvent d)) in
       subst⁻¹ (λ a. ThreadOrder (grown d) a (newId d)) (r .2) (within (r .1) k)
 
+  -- the write that it picked,
+  pub picked-listed-first : writing (d .action) ≡ true → ModificationOrder (grown d) (d .picked) (newId d)
+  picked-listed-first w =
+      at (d .location)
+      (subst⁻¹ (Precedes (d .picked) (newId d)) (order-here d ∙ order-written d w)
+      (precedes-put-in (upToPicked d) (newId d) (d .after) (member-put-in (d .before) (d .picked) [])))
+
+  pub picked-read : writing (d .action) ≡ false → ReadsFrom (grown d) (d .picked) (newId d)
+  picked-read w = ap sourceOf (new-there d) ∙ unwriting-reads (d .action) (d .location) _ (d .picked) w
+
+  pub picked-before-new : ScEdge (grown d) (d .picked) (newId d)
+  picked-before-new =
+      ⊎-elim (λ w. modificationOrder (picked-listed-first w)) (λ w. happensBefore (edge (readsFrom (picked-read w))))
+      (writing-cases (d .action))
+
 -- and before what stood after the write that it picked.
 module _ {g : Graph} (f : WellFormed g) (d : Addition g) where
   pub new-before-later : {v : Id} → Member v (d .after) → ScEdge (grown d) (newId d) v
@@ -53,7 +68,7 @@ module _ {g : Graph} (f : WellFormed g) (d : Addition g) where
           fromRead
           (record
           { source = d .picked
-          ; read = ap sourceOf (new-there d) ∙ unwriting-reads (d .action) (d .location) _ (d .picked) w
+          ; read = picked-read d w
           ; later = at (d .location) (precedes-stays d (d .location) (subst⁻¹ (Precedes (d .picked) v) (d .split) (precedes-after (d .before) (d .picked) m)))
           ; other = λ q. listed-not-next f (d .thread) (d .location) v listed (sym q)
           })

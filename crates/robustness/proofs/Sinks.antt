@@ -9,7 +9,7 @@ use native.Mathlib.Decide.{decLt}
 use lib.ListN.{length}
 use Rattle.relations.specs.Closure.{Closure, Precedes}
 use Rattle.relations.proofs.Sink.{Sink, closure-sink, sink-keeps-acyclic}
-use Rattle.relations.proofs.Lists.{length-of-snoc, precedes-members, precedes-old-or-put-in, precedes-to-last, member-put-in}
+use Rattle.relations.proofs.Lists.{length-of-snoc, precedes-members, precedes-old-or-put-in, precedes-put-in}
 use Rattle.model.specs.Graph.{Id, start, event, Event, Graph, eventsOf, order, eventAt, sourceOf, locationOf}
 use Rattle.model.specs.Order.{ThreadOrder, starting, within, ReadsFrom, ModificationOrder, at, FromRead}
 use Rattle.model.specs.Order.{HappensEdge, threadOrder, readsFrom, HappensBefore, ScEdge, happensBefore, modificationOrder, fromRead, ScOrder}
@@ -97,7 +97,7 @@ module _ {g : Graph} (f : WellFormed g) (d : Addition g) where
     picked-is-last b y h =
         let q = one-location f (d .picked) y (d .location) (precedes-members (order g y) h .0) (in-order d) in
         let m = in-front (d .before) (d .picked) (subst (Precedes (d .picked) b) last-there (subst (λ z. Precedes (d .picked) b (order g z)) q h)) in
-        f .no-repeats (d .location) (d .picked) (subst⁻¹ (Precedes (d .picked) (d .picked)) last-there (precedes-to-last (d .before) (d .picked) m))
+        f .no-repeats (d .location) (d .picked) (subst⁻¹ (Precedes (d .picked) (d .picked)) last-there (precedes-put-in (d .before) (d .picked) [] m))
 
     new-precedes-none : (b : Id) → ModificationOrder (grown d) (newId d) b → ⊥
     new-precedes-none b (at y h) =

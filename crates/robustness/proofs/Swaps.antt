@@ -30,9 +30,6 @@ module _ {p : Program} {s : State} {q t : ℕ} (f : Good p s) (a : Access p s q)
   split-newest = a .split ∙ ap (λ l. a .before ++ a .picked ∷ l) newest
 
   module _ (earlier : List Id) (split : order (s .graph) (b .location) ≡ b .before ++ b .picked ∷ earlier) where
-    first : Access p s t
-    first = pulled f a b n earlier split
-
     -- The value of the write that the SC access picked, after the other access.
     value-kept : valueOf (stateAfter (pulled f a b n earlier split) .graph) (a .picked) ≡ valueOf (s .graph) (a .picked)
     unfolding stateAfter graphAfter
@@ -41,17 +38,19 @@ module _ {p : Program} {s : State} {q t : ℕ} (f : Good p s) (a : Access p s q)
         (listed-event-stays (f .wellFormed) (additionOf f (pulled f a b n earlier split)) (a .location) (a .picked)
         (subst⁻¹ (Member (a .picked)) split-newest (member-put-in (a .before) (a .picked) [])))
 
-  pub swap-elsewhere : a .location ≢ b .location → Swap f a b n
+  pub split-elsewhere : a .location ≢ b .location → order (s .graph) (b .location) ≡ b .before ++ b .picked ∷ b .after
+  unfolding stateAfter graphAfter
+  split-elsewhere k = sym (other-order (s .graph) q _ (a .location) _ (b .location) (λ j. k (sym j))) ∙ b .split
+
+  pub swap-elsewhere : (k : a .location ≢ b .location) → Swap f a b n (b .after) (split-elsewhere k)
   unfolding stateAfter graphAfter
   swap-elsewhere k =
       record
-      { earlier = b .after
-      ; split = split
-      ; front = a .before
+      { front = a .before
       ; final = a .picked
       ; found = other-order (s .graph) t _ (b .location) _ (a .location) k ∙ split-newest
-      ; allows = ap (a .effects) (value-kept (b .after) split) ∙ a .allows
-      ; sameEvent = ap (λ u. eventOf (a .effect .action) (a .location) u (a .picked)) (value-kept (b .after) split)
+      ; allows = ap (a .effects) (value-kept (b .after) (split-elsewhere k)) ∙ a .allows
+      ; sameEvent = ap (λ u. eventOf (a .effect .action) (a .location) u (a .picked)) (value-kept (b .after) (split-elsewhere k))
       ; sameOrders =
           set-comm (s .graph .orders) (b .location) (a .location) _ _ (λ j. k (sym j))
           ∙ ap (λ l. set (set (s .graph .orders) (a .location) (a .before ++ a .picked ∷ directlyAfter (a .effect .action) (nextId (s .graph) q) l)) (b .location) there) (sym newest)
@@ -59,9 +58,6 @@ module _ {p : Program} {s : State} {q t : ℕ} (f : Good p s) (a : Access p s q)
     where
       there : List Id
       there = b .before ++ b .picked ∷ directlyAfter (b .effect .action) (nextId (s .graph) t) (b .after)
-
-      split : order (s .graph) (b .location) ≡ b .before ++ b .picked ∷ b .after
-      split = sym (other-order (s .graph) q _ (a .location) _ (b .location) (λ j. k (sym j))) ∙ b .split
 
   -- Why the SC access at the same location does the same after the other one.
   pub data SameThere (earlier : List Id) : Type 0 where
@@ -117,13 +113,11 @@ module _ {p : Program} {s : State} {q t : ℕ} (f : Good p s) (a : Access p s q)
     same-event u u′ w w′ v h =
         ap (λ c. eventOf c (a .location) u w) h ∙ sym (ap (λ c. eventOf c (a .location) u′ w′) h)
 
-    pub swap-here : SameThere earlier → Swap f a b n
+    pub swap-here : SameThere earlier → Swap f a b n earlier split
     unfolding stateAfter graphAfter placed
     swap-here e =
         record
-        { earlier = earlier
-        ; split = split
-        ; front = r .front
+        { front = r .front
         ; final = r .final
         ; found = there ∙ r .whole
         ; allows = ⊎-elim (λ z. ap (λ w. a .effects (valueOf here w)) z ∙ ap (a .effects) (value-kept earlier split) ∙ a .allows)
