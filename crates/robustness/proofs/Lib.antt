@@ -12,3 +12,4 @@ pub mod Exchange
 pub mod PlainWrite
 pub mod Swaps
 pub mod Diamond
+pub mod Rotate
