@@ -58,7 +58,7 @@ module _ {A : Type 0} where
   filled-row-in-range (r ∷ ls) (suc i) h = let s : i < length ls = filled-row-in-range ls i h in omega arith
 
   -- Lists by their last element.
-  snoc-not-nil : (l : List A) (a : A) → [] ≡ l ++ a ∷ [] → ⊥
+  pub snoc-not-nil : (l : List A) (a : A) → [] ≡ l ++ a ∷ [] → ⊥
   snoc-not-nil [] a h = nil≢cons h
   snoc-not-nil (b ∷ l) a h = nil≢cons h
 
@@ -102,7 +102,7 @@ module _ {A : Type 0} where
       go (inl q) = inl (q, same-last l k w a (sym (ap (λ r. l ++ w ∷ r) q) ∙ h) .1)
       go (inr r) =
           let s = same-last (l ++ w ∷ r .front) k (r .final) a
-                  (sym (regroup-snoc l w (r .front) (r .final)) ∙ sym (ap (λ z. l ++ w ∷ z) (r .whole)) ∙ h) in
+          (sym (regroup-snoc l w (r .front) (r .final)) ∙ sym (ap (λ z. l ++ w ∷ z) (r .whole)) ∙ h) in
           inr (r .front, r .whole ∙ ap (λ z. r .front ++ z ∷ []) (s .1), s .0)
 
   -- Members, and which stands before which, when one element is put in.

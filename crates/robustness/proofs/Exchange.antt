@@ -46,16 +46,16 @@ module _ {p : Program} {s : State} {q t : ℕ} (f : Good p s) (a : Access p s q)
     -- The later access made first, with those after its picked write that were there.
     abbrev pub pulled : Access p s t
     pulled =
-        record
-        { location = b .location
-        ; effects = b .effects
-        ; line = ap (nextLine p t) (sym thread-unmoved) ∙ b .line
-        ; before = b .before
-        ; picked = b .picked
-        ; after = earlier
-        ; split = split
-        ; effect = b .effect
-        ; allows = ap (b .effects) (sym (value-unmoved (subst⁻¹ (Member (b .picked)) split (member-put-in (b .before) (b .picked) earlier)))) ∙ b .allows
+        record {
+          location = b .location;
+          effects = b .effects;
+          line = ap (nextLine p t) (sym thread-unmoved) ∙ b .line;
+          before = b .before;
+          picked = b .picked;
+          after = earlier;
+          split = split;
+          effect = b .effect;
+          allows = ap (b .effects) (sym (value-unmoved (subst⁻¹ (Member (b .picked)) split (member-put-in (b .before) (b .picked) earlier)))) ∙ b .allows;
         }
 
   -- What the earlier access finds when it is made after the later one, and that the two orders come out the same.
@@ -78,16 +78,16 @@ module _ {p : Program} {s : State} {q t : ℕ} (f : Good p s) (a : Access p s q)
     unfoldable pub second : Access p (stateAfter (pulled earlier split)) q
     unfolding stateAfter
     second =
-        record
-        { location = a .location
-        ; effects = a .effects
-        ; line = ap (nextLine p q) (getD-set-other (s .threads) t q (b .effect .after) startThread n) ∙ a .line
-        ; before = w .front
-        ; picked = w .final
-        ; after = []
-        ; split = w .found
-        ; effect = a .effect
-        ; allows = w .allows
+        record {
+          location = a .location;
+          effects = a .effects;
+          line = ap (nextLine p q) (getD-set-other (s .threads) t q (b .effect .after) startThread n) ∙ a .line;
+          before = w .front;
+          picked = w .final;
+          after = [];
+          split = w .found;
+          effect = a .effect;
+          allows = w .allows;
         }
 
     pub exchanged : stateAfter second ≡ stateAfter b

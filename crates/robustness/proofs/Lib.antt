@@ -13,3 +13,5 @@ pub mod PlainWrite
 pub mod Swaps
 pub mod Diamond
 pub mod Rotate
+pub mod Push
+pub mod Robust

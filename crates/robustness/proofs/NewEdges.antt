@@ -30,9 +30,11 @@ module _ {g : Graph} (d : Addition g) where
   pub own-before-new : {a : Id} → Member a (threadEvents g (d .thread)) → ThreadOrder (grown d) a (newId d)
   own-before-new m =
       let r = place-of-own g (d .thread) m in
-      let k : length (eventsOf g (d .thread)) < length (eventsOf (grown d) (d .thread)) = omega
-              (arith, ap length (own-events g (d .thread) (newEvent d) (d .location) (newOrder d) (d .hasThread)),
-              length-of-snoc (eventsOf g (d .thread)) (newEvent d)) in
+      let k : length (eventsOf g (d .thread)) < length (eventsOf (grown d) (d .thread)) = omega (
+        arith,
+        ap length (own-events g (d .thread) (newEvent d) (d .location) (newOrder d) (d .hasThread)),
+        length-of-snoc (eventsOf g (d .thread)) (newEvent d),
+      ) in
       subst⁻¹ (λ a. ThreadOrder (grown d) a (newId d)) (r .2) (within (r .1) k)
 
   -- the write that it picked,
@@ -66,9 +68,9 @@ module _ {g : Graph} (f : WellFormed g) (d : Addition g) where
       reads′ : writing (d .action) ≡ false → ScEdge (grown d) (newId d) v
       reads′ w =
           fromRead
-          (record
-          { source = d .picked
-          ; read = picked-read d w
-          ; later = at (d .location) (precedes-stays d (d .location) (subst⁻¹ (Precedes (d .picked) v) (d .split) (precedes-after (d .before) (d .picked) m)))
-          ; other = λ q. listed-not-next f (d .thread) (d .location) v listed (sym q)
+          (record {
+            source = d .picked;
+            read = picked-read d w;
+            later = at (d .location) (precedes-stays d (d .location) (subst⁻¹ (Precedes (d .picked) v) (d .split) (precedes-after (d .before) (d .picked) m)));
+            other = λ q. listed-not-next f (d .thread) (d .location) v listed (sym q);
           })

@@ -53,10 +53,10 @@ module _ {p : Program} {schedule : List ℕ} {s : State} {t : ℕ} {kind : Kind}
   -- NR.
   pub witness-not-robust : NotRobust p schedule t kind x u
   witness-not-robust =
-      record
-      { state = s
-      ; run = run
-      ; witness = w
-      ; weakRun = andStep (sc-run-is-ra-run run) (accessStep (w .access) (w .allowed) refl)
-      ; beyond = λ a k q. stale-access-beyond-sc a k
+      record {
+        state = s;
+        run = run;
+        witness = w;
+        weakRun = andStep (sc-run-is-ra-run run) (accessStep (w .access) (w .allowed) refl);
+        beyond = λ a k q. stale-access-beyond-sc a k;
       }

@@ -49,15 +49,15 @@ pub record Good (p : Program) (s : State) : Type 0 where
 -- What an access adds to the graph.
 abbrev pub additionOf : {p : Program} {s : State} {t : ℕ} → Good p s → Access p s t → Addition (s .graph)
 additionOf {p} {s} {t} f a =
-    record
-    { thread = t
-    ; location = a .location
-    ; action = a .effect .action
-    ; before = a .before
-    ; picked = a .picked
-    ; after = a .after
-    ; split = a .split
-    ; hasThread = subst⁻¹ (λ n. t < n) (f .events) (has-thread p t (threadOf s t) (access-not-ended (a .line)))
+    record {
+      thread = t;
+      location = a .location;
+      action = a .effect .action;
+      before = a .before;
+      picked = a .picked;
+      after = a .after;
+      split = a .split;
+      hasThread = subst⁻¹ (λ n. t < n) (f .events) (has-thread p t (threadOf s t) (access-not-ended (a .line)));
     }
 
 pub graph-grown : {p : Program} {s : State} {t : ℕ} (f : Good p s) (a : Access p s t) → graphAfter a ≡ grown (additionOf f a)
@@ -67,22 +67,22 @@ graph-grown f a = refl
 pub start-good : (p : Program) → Good p (startState p)
 unfolding startState
 start-good p =
-    record
-    { threads = length-map (p .threads) (λ (ls : List Line). startThread)
-    ; events = start-threads p
-    ; locations = start-locations p
-    ; wellFormed = start-well-formed p
+    record {
+      threads = length-map (p .threads) (λ (ls : List Line). startThread);
+      events = start-threads p;
+      locations = start-locations p;
+      wellFormed = start-well-formed p;
     }
 
 pub access-good : {p : Program} {s : State} {t : ℕ} → Good p s → (a : Access p s t) → Good p (stateAfter a)
 unfolding stateAfter
 access-good {s = s} {t = t} f a =
     let d = additionOf f a in
-    record
-    { threads = length-set (s .threads) t (a .effect .after) ∙ f .threads
-    ; events = ap (λ g. length (g .events)) (graph-grown f a) ∙ same-threads (s .graph) (d .thread) (newEvent d) (d .location) (newOrder d) ∙ f .events
-    ; locations = ap (λ g. length (g .orders)) (graph-grown f a) ∙ same-locations (s .graph) (d .thread) (newEvent d) (d .location) (newOrder d) ∙ f .locations
-    ; wellFormed = subst⁻¹ WellFormed (graph-grown f a) (well-formed-grows (f .wellFormed) d)
+    record {
+      threads = length-set (s .threads) t (a .effect .after) ∙ f .threads;
+      events = ap (λ g. length (g .events)) (graph-grown f a) ∙ same-threads (s .graph) (d .thread) (newEvent d) (d .location) (newOrder d) ∙ f .events;
+      locations = ap (λ g. length (g .orders)) (graph-grown f a) ∙ same-locations (s .graph) (d .thread) (newEvent d) (d .location) (newOrder d) ∙ f .locations;
+      wellFormed = subst⁻¹ WellFormed (graph-grown f a) (well-formed-grows (f .wellFormed) d);
     }
 
 pub local-good : {p : Program} {s : State} → Good p s → (t : ℕ) (q : ThreadState) → Good p (afterLocal s t q)
@@ -116,9 +116,9 @@ sc-order-acyclic (andStep r k) a h = step-acyclic (run-good r) k (λ b w. sc-ord
 pub newest-allowed : (p : Program) (g : Graph) (t : ℕ) (action : Action) (after : List Id) → after ≡ [] → Allowed p g t action after
 unfolding startsWithUpdate
 newest-allowed p g t action after q =
-    record
-    { unseen = λ v m h. List·Memᴰ·not-nil (subst (Member v) q m)
-    ; unfollowed = λ w. ap (startsWithUpdate g) q
+    record {
+      unseen = λ v m h. List·Memᴰ·not-nil (subst (Member v) q m);
+      unfollowed = λ w. ap (startsWithUpdate g) q;
     }
 
 pub sc-step-is-ra-step : {p : Program} {t : ℕ} {s s′ : State} → ScStep p t s s′ → RaStep p t s s′
@@ -135,11 +135,11 @@ pub same-pick-same-state : {p : Program} {s : State} {t : ℕ} (a b : Access p s
     → a .after ≡ b .after → stateAfter a ≡ stateAfter b
 unfolding stateAfter graphAfter
 same-pick-same-state {p} {s} {t} a b qb qw qa i =
-    record
-    { threads = set (s .threads) t (qe i .after)
-    ; graph =
-        extend (s .graph) t (eventOf (qe i .action) (ql i) (valueOf (s .graph) (qw i)) (qw i)) (ql i)
-        (qb i ++ qw i ∷ directlyAfter (qe i .action) (nextId (s .graph) t) (qa i))
+    record {
+      threads = set (s .threads) t (qe i .after);
+      graph =
+          extend (s .graph) t (eventOf (qe i .action) (ql i) (valueOf (s .graph) (qw i)) (qw i)) (ql i)
+          (qb i ++ qw i ∷ directlyAfter (qe i .action) (nextId (s .graph) t) (qa i));
     }
   where
     ql : a .location ≡ b .location

@@ -40,10 +40,10 @@ module _ {g : Graph} (d : Addition g) (e : Addition (grown d)) {v : Id} (joined 
     (before : IsOrBefore (ScOrder (grown d)) v (newId d)) where
   seen-through : Seen (grown e) (e .thread) v
   seen-through =
-      record
-      { target = newId e
-      ; listed = new-is-own e
-      ; way = inr (before-joins (⊎-elim inl (λ w. inr (sc-order-grows e w)) before) (edge joined))
+      record {
+        target = newId e;
+        listed = new-is-own e;
+        way = inr (before-joins (⊎-elim inl (λ w. inr (sc-order-grows e w)) before) (edge joined));
       }
 
 module _ {p : Program} {s s″ : State} {q t : ℕ} {v : Id} (f : Good p s) (n : q ≢ t) (unseen : Seen (s″ .graph) t v → ⊥) where

@@ -87,9 +87,9 @@ module _ {g : Graph} (d : Addition g) (e : Addition (grown d)) (newest : d .afte
   pub conflict-after-read : writing (d .action) ≡ false → writing (e .action) ≡ true → ScEdge (grown e) (newId d) (newId e)
   conflict-after-read w k =
       fromRead
-      (record
-      { source = d .picked
-      ; read = reads-from-grows e (d .picked) (newId d) (picked-read d w)
-      ; later = subst (λ a. ModificationOrder (grown e) a (newId e)) (picks-same w) (picked-listed-first e k)
-      ; other = λ q. n (let r : d .thread ≡ e .thread = cc in r)
+      (record {
+        source = d .picked;
+        read = reads-from-grows e (d .picked) (newId d) (picked-read d w);
+        later = subst (λ a. ModificationOrder (grown e) a (newId e)) (picks-same w) (picked-listed-first e k);
+        other = λ q. n (let r : d .thread ≡ e .thread = cc in r);
       })

@@ -62,9 +62,11 @@ module _ {g : Graph} (f : WellFormed g) (d : Addition g) where
       let q₁ : t ≡ d .thread = cc in
       let q₂ : i ≡ length (eventsOf g (d .thread)) = cc in
       let k : j < length (eventsOf (grown d) (d .thread)) = subst (λ u. j < length (eventsOf (grown d) u)) q₁ h in
-      omega
-      (arith, ap length (own-events g (d .thread) (newEvent d) (d .location) (newOrder d) (d .hasThread)),
-      length-of-snoc (eventsOf g (d .thread)) (newEvent d))
+      omega (
+        arith,
+        ap length (own-events g (d .thread) (newEvent d) (d .location) (newOrder d) (d .hasThread)),
+        length-of-snoc (eventsOf g (d .thread)) (newEvent d),
+      )
 
   happens-new : (a b : Id) → HappensEdge (grown d) a b → (b ≡ newId d) ⊎ HappensEdge g a b
   happens-new a b (threadOrder (starting {x = x} {t = t} {i = i} l h)) =

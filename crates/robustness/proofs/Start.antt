@@ -85,20 +85,20 @@ module _ (p : Program) where
   pub start-well-formed : WellFormed (startGraph p)
   unfolding sourceOf writesTo
   start-well-formed =
-      record
-      { listed-writes = λ x a m. ⊎-elim (λ o. listed x a (o .0) (subst (Member a) (o .1) m)) (λ o. absurd (List·Memᴰ·not-nil (subst (Member a) o m))) (start-orders x)
-      ; writes-listed = λ x a w. let r = start-event-is a (w .there) in writes x a w (r .0) (r .1) (r .2) (r .3)
-      ; sources-listed = λ r w v h k. let s = start-event-is r h in absurd (let z : _≡_ {A = ℕ} 0 1 = cc (s .2) in omega arith)
-      ; no-repeats = λ x a h. ⊎-elim (λ o. alone x a (subst (Precedes a a) (o .1) h)) (λ o. precedes-not-nil (subst (Precedes a a) o h)) (start-orders x)
-      ; headed = λ x h. ([], start-order x (subst (λ n. x < n) start-locations h))
+      record {
+        listed-writes = λ x a m. ⊎-elim (λ o. listed x a (o .0) (subst (Member a) (o .1) m)) (λ o. absurd (List·Memᴰ·not-nil (subst (Member a) o m))) (start-orders x);
+        writes-listed = λ x a w. let r = start-event-is a (w .there) in writes x a w (r .0) (r .1) (r .2) (r .3);
+        sources-listed = λ r w v h k. let s = start-event-is r h in absurd (let z : _≡_ {A = ℕ} 0 1 = cc (s .2) in omega arith);
+        no-repeats = λ x a h. ⊎-elim (λ o. alone x a (subst (Precedes a a) (o .1) h)) (λ o. precedes-not-nil (subst (Precedes a a) o h)) (start-orders x);
+        headed = λ x h. ([], start-order x (subst (λ n. x < n) start-locations h));
       }
     where
       listed : (x : ℕ) (a : Id) → x < p .locations → Member a (start x ∷ []) → WriteTo (startGraph p) x a
       listed x a h m =
-          record
-          { write = writeE x 0
-          ; there = ap (eventAt (startGraph p)) (List·Memᴰ·eq-of-singleton m) ∙ start-there (startGraph p) x (subst⁻¹ (λ n. x < n) start-locations h)
-          ; to = refl
+          record {
+            write = writeE x 0;
+            there = ap (eventAt (startGraph p)) (List·Memᴰ·eq-of-singleton m) ∙ start-there (startGraph p) x (subst⁻¹ (λ n. x < n) start-locations h);
+            to = refl;
           }
 
       writes : (x : ℕ) (a : Id) (w : WriteTo (startGraph p) x a) (y : ℕ) → a ≡ start y → w .write ≡ writeE y 0 → y < p .locations

@@ -2,7 +2,7 @@
 -- still meets the write that it picked, or is a plain write.
 use mathlib.Core.Path.{_≡_, refl, sym, ap, _∙_, subst, subst⁻¹}
 use mathlib.Core.Bool.{true, false}
-use mathlib.Core.List.{List, [], _∷_, _++_, append-assoc, List·Memᴰ as Member}
+use mathlib.Core.List.{List, [], _∷_, _++_, append-nil, append-assoc, List·Memᴰ as Member}
 use mathlib.Core.Option.{Option, some}
 use mathlib.Core.Logic.{_⊎_, inl, inr, ⊎-elim, _≢_}
 use Prim.Native.Nat.{ℕ, _<_}
@@ -14,7 +14,7 @@ use Rattle.model.specs.Thread.{Action, reads, writes, updates, nextLine}
 use Rattle.model.specs.Graph.{Id, event, Event, Graph, eventsOf, order, eventAt, valueWritten, valueOf, nextId, eventOf, directlyAfter, extend}
 use Rattle.model.specs.Run.{State, threadOf, Access, graphAfter, stateAfter, writing}
 use Rattle.robustness.proofs.Lookup.{other-order, new-order}
-use Rattle.robustness.proofs.Growth.{Addition, hasLocation, grown, newEvent, newOrder, not-written}
+use Rattle.robustness.proofs.Growth.{hasLocation, not-written, order-here, order-unwritten}
 use Rattle.robustness.proofs.Reachable.{Good, additionOf}
 use Rattle.robustness.proofs.Exchange.{listed-event-stays, pulled, Swap}
 use Rattle.robustness.proofs.PlainWrite.{plain-write-ignores}
@@ -45,19 +45,29 @@ module _ {p : Program} {s : State} {q t : ℕ} (f : Good p s) (a : Access p s q)
   pub swap-elsewhere : (k : a .location ≢ b .location) → Swap f a b n (b .after) (split-elsewhere k)
   unfolding stateAfter graphAfter
   swap-elsewhere k =
-      record
-      { front = a .before
-      ; final = a .picked
-      ; found = other-order (s .graph) t _ (b .location) _ (a .location) k ∙ split-newest
-      ; allows = ap (a .effects) (value-kept (b .after) (split-elsewhere k)) ∙ a .allows
-      ; sameEvent = ap (λ u. eventOf (a .effect .action) (a .location) u (a .picked)) (value-kept (b .after) (split-elsewhere k))
-      ; sameOrders =
-          set-comm (s .graph .orders) (b .location) (a .location) _ _ (λ j. k (sym j))
-          ∙ ap (λ l. set (set (s .graph .orders) (a .location) (a .before ++ a .picked ∷ directlyAfter (a .effect .action) (nextId (s .graph) q) l)) (b .location) there) (sym newest)
+      record {
+        front = a .before;
+        final = a .picked;
+        found = other-order (s .graph) t _ (b .location) _ (a .location) k ∙ split-newest;
+        allows = ap (a .effects) (value-kept (b .after) (split-elsewhere k)) ∙ a .allows;
+        sameEvent = ap (λ u. eventOf (a .effect .action) (a .location) u (a .picked)) (value-kept (b .after) (split-elsewhere k));
+        sameOrders =
+            set-comm (s .graph .orders) (b .location) (a .location) _ _ (λ j. k (sym j))
+            ∙ ap (λ l. set (set (s .graph .orders) (a .location) (a .before ++ a .picked ∷ directlyAfter (a .effect .action) (nextId (s .graph) q) l)) (b .location) there) (sym newest);
       }
     where
       there : List Id
       there = b .before ++ b .picked ∷ directlyAfter (b .effect .action) (nextId (s .graph) t) (b .after)
+
+  -- At the same location, where the SC access does not write.
+  pub split-unwritten : a .location ≡ b .location → writing (a .effect .action) ≡ false
+      → order (s .graph) (b .location) ≡ b .before ++ b .picked ∷ b .after
+  unfolding stateAfter graphAfter
+  split-unwritten k w =
+      ap (order (s .graph)) (sym k) ∙ sym (order-here (additionOf f a) ∙ order-unwritten (additionOf f a) w) ∙ ap (order (graphAfter a)) k ∙ b .split
+
+  pub rest-unwritten : writing (a .effect .action) ≡ false → (l : List Id) → l ≡ l ++ directlyAfter (a .effect .action) (nextId (s .graph) q) []
+  rest-unwritten w l = sym (append-nil l) ∙ ap (λ m. l ++ m) (sym (not-written (a .effect .action) (nextId (s .graph) q) [] w))
 
   -- Why the SC access at the same location does the same after the other one.
   pub data SameThere (earlier : List Id) : Type 0 where
@@ -83,25 +93,25 @@ module _ {p : Program} {s : State} {q t : ℕ} (f : Good p s) (a : Access p s q)
     find : SameThere earlier → Found
     unfolding placed
     find (unwritten w) =
-        record
-        { front = a .before
-        ; final = a .picked
-        ; whole = ap (λ l. b .before ++ b .picked ∷ l) (not-written (b .effect .action) (nextId (s .graph) t) earlier w) ∙ sym one-order
-        ; same = inl refl
+        record {
+          front = a .before;
+          final = a .picked;
+          whole = ap (λ l. b .before ++ b .picked ∷ l) (not-written (b .effect .action) (nextId (s .graph) t) earlier w) ∙ sym one-order;
+          same = inl refl;
         }
     find (older r) =
-        record
-        { front = placed (r .front)
-        ; final = r .final
-        ; whole =
-            ap placed (r .whole)
-            ∙ ap (λ l. b .before ++ b .picked ∷ l) (directly-after-append (b .effect .action) (nextId (s .graph) t) (r .front) (r .final ∷ []))
-            ∙ regroup-snoc (b .before) (b .picked) (directlyAfter (b .effect .action) (nextId (s .graph) t) (r .front)) (r .final)
-        ; same =
-            inl
-            (sym
-            (same-last (a .before) (b .before ++ b .picked ∷ r .front) (a .picked) (r .final)
-            (one-order ∙ ap (λ l. b .before ++ b .picked ∷ l) (r .whole) ∙ regroup-snoc (b .before) (b .picked) (r .front) (r .final)) .1))
+        record {
+          front = placed (r .front);
+          final = r .final;
+          whole =
+              ap placed (r .whole)
+              ∙ ap (λ l. b .before ++ b .picked ∷ l) (directly-after-append (b .effect .action) (nextId (s .graph) t) (r .front) (r .final ∷ []))
+              ∙ regroup-snoc (b .before) (b .picked) (directlyAfter (b .effect .action) (nextId (s .graph) t) (r .front)) (r .final);
+          same =
+              inl
+              (sym
+              (same-last (a .before) (b .before ++ b .picked ∷ r .front) (a .picked) (r .final)
+              (one-order ∙ ap (λ l. b .before ++ b .picked ∷ l) (r .whole) ∙ regroup-snoc (b .before) (b .picked) (r .front) (r .final)) .1));
         }
     find (plain v w) =
         let r = split-has-last (b .before) (b .picked) (directlyAfter (b .effect .action) (nextId (s .graph) t) earlier) in
@@ -116,22 +126,22 @@ module _ {p : Program} {s : State} {q t : ℕ} (f : Good p s) (a : Access p s q)
     pub swap-here : SameThere earlier → Swap f a b n earlier split
     unfolding stateAfter graphAfter placed
     swap-here e =
-        record
-        { front = r .front
-        ; final = r .final
-        ; found = there ∙ r .whole
-        ; allows = ⊎-elim (λ z. ap (λ w. a .effects (valueOf here w)) z ∙ ap (a .effects) (value-kept earlier split) ∙ a .allows)
-            (λ z. plain-write-ignores p q (threadOf s q) (a .effects) (valueOf (s .graph) (a .picked)) (valueOf here (r .final)) (a .line) (a .allows) (z .1)) (r .same)
-        ; sameEvent =
-            ⊎-elim
-            (λ z. ap (λ w. eventOf (a .effect .action) (a .location) (valueOf here w) w) z ∙ ap (λ u. eventOf (a .effect .action) (a .location) u (a .picked)) (value-kept earlier split))
-            (λ z. same-event (valueOf here (r .final)) (valueOf (s .graph) (a .picked)) (r .final) (a .picked) (z .0) (z .1)) (r .same)
-        ; sameOrders =
-            (λ i. set (set (s .graph .orders) (b .location) (placed earlier)) (k i) (r .front ++ r .final ∷ newA))
-            ∙ set-set (s .graph .orders) (b .location) (placed earlier) (r .front ++ r .final ∷ newA)
-            ∙ ap (set (s .graph .orders) (b .location)) together
-            ∙ sym (set-set (s .graph .orders) (b .location) placedA (placed (b .after)))
-            ∙ (λ i. set (set (s .graph .orders) (k⁻¹ i) placedA) (b .location) (placed (b .after)))
+        record {
+          front = r .front;
+          final = r .final;
+          found = there ∙ r .whole;
+          allows = ⊎-elim (λ z. ap (λ w. a .effects (valueOf here w)) z ∙ ap (a .effects) (value-kept earlier split) ∙ a .allows)
+              (λ z. plain-write-ignores p q (threadOf s q) (a .effects) (valueOf (s .graph) (a .picked)) (valueOf here (r .final)) (a .line) (a .allows) (z .1)) (r .same);
+          sameEvent =
+              ⊎-elim
+              (λ z. ap (λ w. eventOf (a .effect .action) (a .location) (valueOf here w) w) z ∙ ap (λ u. eventOf (a .effect .action) (a .location) u (a .picked)) (value-kept earlier split))
+              (λ z. same-event (valueOf here (r .final)) (valueOf (s .graph) (a .picked)) (r .final) (a .picked) (z .0) (z .1)) (r .same);
+          sameOrders =
+              (λ i. set (set (s .graph .orders) (b .location) (placed earlier)) (k i) (r .front ++ r .final ∷ newA))
+              ∙ set-set (s .graph .orders) (b .location) (placed earlier) (r .front ++ r .final ∷ newA)
+              ∙ ap (set (s .graph .orders) (b .location)) together
+              ∙ sym (set-set (s .graph .orders) (b .location) placedA (placed (b .after)))
+              ∙ (λ i. set (set (s .graph .orders) (k⁻¹ i) placedA) (b .location) (placed (b .after)));
         }
       where
         r : Found

@@ -90,10 +90,10 @@ module _ {g : Graph} (f : WellFormed g) (d : Addition g) where
     where
       fresh : (a ≡ newId d) × (x ≡ d .location) × (writing (d .action) ≡ true) → WriteTo (grown d) x a
       fresh n =
-          record
-          { write = newEvent d
-          ; there = ap (eventAt (grown d)) (n .0) ∙ new-there d
-          ; to = new-write-to (d .action) (d .location) _ (d .picked) (n .2) ∙ ap some (sym (n .1))
+          record {
+            write = newEvent d;
+            there = ap (eventAt (grown d)) (n .0) ∙ new-there d;
+            to = new-write-to (d .action) (d .location) _ (d .picked) (n .2) ∙ ap some (sym (n .1));
           }
 
       old : Member a (order g x) → WriteTo (grown d) x a
@@ -150,10 +150,10 @@ module _ {g : Graph} (f : WellFormed g) (d : Addition g) where
 
   pub well-formed-grows : WellFormed (grown d)
   well-formed-grows =
-      record
-      { listed-writes = listed-writes-kept
-      ; writes-listed = writes-listed-kept
-      ; sources-listed = sources-listed-kept
-      ; no-repeats = no-repeats-kept
-      ; headed = headed-kept
+      record {
+        listed-writes = listed-writes-kept;
+        writes-listed = writes-listed-kept;
+        sources-listed = sources-listed-kept;
+        no-repeats = no-repeats-kept;
+        headed = headed-kept;
       }
