@@ -1,5 +1,7 @@
--- Execution graphs: document 01, section "Graphs". Two graphs "are the same when they have the same events, each with the same kind,
--- location, value read and value written, the same reads-from and the same modification orders": here that is plain equality.
+-- Execution graphs: document 01, section "Graphs". Two graphs "are the same when they have the same events, each with
+-- the same kind,
+-- location, value read and value written, the same reads-from and the same modification orders": here that is plain
+-- equality.
 use Prim.Native.Nat.{ℕ, zero, suc}
 use mathlib.Core.Bool.{Bool, true, false, cond}
 use mathlib.Core.List.{List, [], _∷_, _++_, map}
@@ -15,14 +17,16 @@ pub data Id : Type 0 where
   start : (location : ℕ) → Id
   event : (thread place : ℕ) → Id
 
--- "each thread's reads, writes and read-modify-writes": each with its location, the value read and the write that it reads from, and
+-- "each thread's reads, writes and read-modify-writes": each with its location, the value read and the write that it
+-- reads from, and
 -- the value written.
 pub data Event : Type 0 where
   readE : (location found : ℕ) (source : Id) → Event
   writeE : (location value : ℕ) → Event
   updateE : (location found value : ℕ) (source : Id) → Event
 
--- The events of each thread in order, and the modification order of each location, oldest first. The starting writes are those of the
+-- The events of each thread in order, and the modification order of each location, oldest first. The starting writes
+-- are those of the
 -- locations that have an order.
 pub record Graph : Type 0 where
   pub events : List (List Event)
@@ -36,7 +40,8 @@ eventsOf g t = getD (g .events) t []
 abbrev pub order : Graph → ℕ → List Id
 order g x = getD (g .orders) x []
 
--- The event of an id: "one starting write of 0 per location, then each thread's reads, writes and read-modify-writes in order".
+-- The event of an id: "one starting write of 0 per location, then each thread's reads, writes and read-modify-writes
+-- in order".
 unfoldable pub eventAt : Graph → Id → Option Event
 eventAt g (start x) = cond (ltb x (length (g .orders))) (some (writeE x 0)) none
 eventAt g (event t i) = getElem? (eventsOf g t) i
@@ -83,13 +88,19 @@ isUpdate (some (updateE x u v w)) = true
 
 -- "the graph of the starting writes alone"
 unfoldable pub startGraph : Program → Graph
-startGraph p = record { events = map (λ (ls : List Line). []) (p .threads); orders = map (λ x. start x ∷ []) (below (p .locations)) }
+startGraph p =
+    record {
+      events = map (λ (ls : List Line). []) (p .threads);
+      orders = map (λ x. start x ∷ [])
+          (below (p .locations));
+    }
 
 -- The id of the next event of thread t.
 abbrev pub nextId : Graph → ℕ → Id
 nextId g t = event t (length (eventsOf g t))
 
--- The event of an access at x that picks a write w of value u: "a read reads w, a write goes directly after w, a read-modify-write does
+-- The event of an access at x that picks a write w of value u: "a read reads w, a write goes directly after w, a
+-- read-modify-write does
 -- both".
 unfoldable pub eventOf : Action → (x u : ℕ) → Id → Event
 eventOf reads x u w = readE x u w

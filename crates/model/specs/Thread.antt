@@ -1,6 +1,6 @@
 -- Thread states and what a thread's next line does: document 01, sections "Program bytes" and "Graphs".
 use Prim.Native.Nat.{ℕ, suc, _+_, _%_}
-use mathlib.Core.Bool.{Bool, cond}
+use mathlib.Core.Bool.{cond}
 use mathlib.Core.List.{List}
 use mathlib.Core.Option.{Option, none, some}
 use lib.Dec.{eqb, ltb}
@@ -62,7 +62,8 @@ pub data NextLine : Type 0 where
   ended : NextLine
   -- "Ops 1 to 4 change that thread's state only": the thread state after it.
   local : (after : ThreadState) → NextLine
-  -- "Any other line makes one access": its location, and what it does by the value of the write w that it picks; none where the line
+  -- "Any other line makes one access": its location, and what it does by the value of the write w that it picks; none
+  -- where the line
   -- has no step with such a w.
   access : (location : ℕ) (effect : ℕ → Option Effect) → NextLine
 
@@ -84,9 +85,11 @@ does K (read r x) s = access x (λ u. some (record { action = reads; after = loa
 does K (fadd r x a) s = access x (λ u. some (record { action = updates ((u + operand s a) % K); after = load s r u }))
 -- "CAS from A to B, reg := value found"; "A failed CAS is a plain read."
 does K (cas r x a b) s =
-    access x (λ u. some (record { action = cond (eqb u (operand s a)) (updates (operand s b)) reads; after = load s r u }))
+    access x
+    (λ u. some (record { action = cond (eqb u (operand s a)) (updates (operand s b)) reads; after = load s r u }))
 -- "wait until the value is A"; "Ops 9 and 10 have a step only with a w of value A."
-does K (wait x a) s = access x (λ u. cond (eqb u (operand s a)) (some (record { action = reads; after = onward s })) none)
+does K (wait x a) s =
+    access x (λ u. cond (eqb u (operand s a)) (some (record { action = reads; after = onward s })) none)
 -- "blocking CAS from A to B"
 does K (bcas x a b) s =
     access x (λ u. cond (eqb u (operand s a)) (some (record { action = updates (operand s b); after = onward s })) none)

@@ -1,6 +1,8 @@
--- The closure is decided over a list of vertices that has every target of an edge: vertices are allowed between the ends one at a time.
+-- The closure is decided over a list of vertices that has every target of an edge: vertices are allowed between the
+-- ends one at a time.
 use mathlib.Core.Path.{_≡_, subst}
-use mathlib.Core.List.{List, [], _∷_, List·Memᴰ as Member, List·Memᴰ·head, List·Memᴰ·tail, List·Memᴰ·cases-cons, List·Memᴰ·not-nil}
+use mathlib.Core.List.{List, [], _∷_, List·Memᴰ as Member, List·Memᴰ·head, List·Memᴰ·tail, List·Memᴰ·cases-cons}
+use mathlib.Core.List.{List·Memᴰ·not-nil}
 use mathlib.Core.Logic.{_⊎_, inl, inr, ⊎-elim}
 use Rattle.relations.specs.Closure.{Relation, Closure, edge, further, IsOrBefore, Reaches, Precedes, here, later}
 use Rattle.relations.proofs.Laws.{closure-joins}
@@ -43,7 +45,8 @@ dec-some {A} {P} d (b ∷ l) = dec-map into out (dec-or (d b) (dec-some d l))
 pub precedes-not-nil : {A : Type 0} {a b : A} → Precedes a b [] → ⊥
 precedes-not-nil h = elim h [ ]
 
-pub precedes-cases : {A : Type 0} {a b c : A} {l : List A} → Precedes a b (c ∷ l) → ((a ≡ c) × Member b l) ⊎ Precedes a b l
+pub precedes-cases : {A : Type 0} {a b c : A} {l : List A} → Precedes a b (c ∷ l)
+    → ((a ≡ c) × Member b l) ⊎ Precedes a b l
 precedes-cases (here q m) = inl (q, m)
 precedes-cases (later h) = inr h
 
@@ -91,8 +94,10 @@ module _ {A : Type 0} (R : Relation A) where
       let h = closure-through vs listed p in
       (through-further vs a b c (h .0) (h .1) r, listed b c r)
 
-  pub dec-closure : ((a b : A) → Dec (R a b)) → (vs : List A) → ((a b : A) → R a b → Member b vs) → (a b : A) → Dec (Closure R a b)
-  dec-closure d vs listed a b = dec-map (through-closure vs a b) (λ p. closure-through vs listed p .0) (dec-through d vs a b)
+  pub dec-closure : ((a b : A) → Dec (R a b)) → (vs : List A) → ((a b : A) → R a b → Member b vs) → (a b : A)
+      → Dec (Closure R a b)
+  dec-closure d vs listed a b =
+      dec-map (through-closure vs a b) (λ p. closure-through vs listed p .0) (dec-through d vs a b)
 
   pub dec-reaches : Discrete A → ((a b : A) → Dec (R a b)) → (bs : List A) (a : A) → Dec (Reaches R bs a)
   dec-reaches eq d bs a =

@@ -1,8 +1,9 @@
 -- Laws on lists that the library lacks: places, splits, members, and which member stands before which.
-use mathlib.Core.Path.{_≡_, refl, sym, ap, _∙_, subst, subst⁻¹}
-use mathlib.Core.List.{List, [], _∷_, _++_, map, append-assoc, List·Memᴰ as Member, List·Memᴰ·head, List·Memᴰ·tail}
-use mathlib.Core.List.{List·Memᴰ·cases-cons, List·Memᴰ·not-nil, List·Memᴰ·append-cases, Memᴰ·append-left, Memᴰ·append-right}
-use mathlib.Core.List.{head-eq-of-cons-eq, tail-eq-of-cons-eq, cons≢nil, nil≢cons, flatten}
+use mathlib.Core.Path.{_≡_, refl, sym, ap, _∙_, subst}
+use mathlib.Core.List.{List, [], _∷_, _++_, append-assoc, List·Memᴰ as Member, List·Memᴰ·head, List·Memᴰ·tail}
+use mathlib.Core.List.{List·Memᴰ·cases-cons, List·Memᴰ·not-nil, List·Memᴰ·append-cases, Memᴰ·append-left}
+use mathlib.Core.List.{Memᴰ·append-right}
+use mathlib.Core.List.{head-eq-of-cons-eq, tail-eq-of-cons-eq, nil≢cons, flatten}
 use mathlib.Core.Option.{Option, none, some, Option·some-ne-none, Option·some-injective}
 use mathlib.Core.Logic.{_⊎_, inl, inr, ⊎-elim}
 use Prim.Native.Nat.{ℕ, zero, suc, _<_}
@@ -46,7 +47,8 @@ module _ {A : Type 0} where
   length-of-snoc [] a = refl
   length-of-snoc (b ∷ l) a = ap suc (length-of-snoc l a)
 
-  pub row-in-range : (ls : List (List A)) (i : ℕ) (l : List A) (a : A) (m : List A) → getD ls i [] ≡ l ++ a ∷ m → i < length ls
+  pub row-in-range : (ls : List (List A)) (i : ℕ) (l : List A) (a : A) (m : List A) → getD ls i [] ≡ l ++ a ∷ m
+      → i < length ls
   row-in-range [] i [] a m h = absurd (nil≢cons h)
   row-in-range [] i (b ∷ l) a m h = absurd (nil≢cons h)
   row-in-range (r ∷ ls) zero l a m h = omega arith
@@ -107,14 +109,18 @@ module _ {A : Type 0} where
 
   -- Members, and which stands before which, when one element is put in.
   pub member-inserted : (l : List A) (e : A) (m : List A) {a : A} → Member a (l ++ m) → Member a (l ++ e ∷ m)
-  member-inserted l e m h = ⊎-elim (λ p. Memᴰ·append-left (e ∷ m) p) (λ p. Memᴰ·append-right l (List·Memᴰ·tail p)) (List·Memᴰ·append-cases l h)
+  member-inserted l e m h =
+      ⊎-elim (λ p. Memᴰ·append-left (e ∷ m) p) (λ p. Memᴰ·append-right l (List·Memᴰ·tail p))
+      (List·Memᴰ·append-cases l h)
 
   pub member-put-in : (l : List A) (e : A) (m : List A) → Member e (l ++ e ∷ m)
   member-put-in l e m = Memᴰ·append-right l (List·Memᴰ·head refl)
 
-  pub member-old-or-put-in : (l : List A) (e : A) (m : List A) {a : A} → Member a (l ++ e ∷ m) → (a ≡ e) ⊎ Member a (l ++ m)
+  pub member-old-or-put-in : (l : List A) (e : A) (m : List A) {a : A} → Member a (l ++ e ∷ m)
+      → (a ≡ e) ⊎ Member a (l ++ m)
   member-old-or-put-in l e m h =
-      ⊎-elim (λ p. inr (Memᴰ·append-left m p)) (λ p. ⊎-elim inl (λ q. inr (Memᴰ·append-right l q)) (List·Memᴰ·cases-cons p))
+      ⊎-elim (λ p. inr (Memᴰ·append-left m p))
+      (λ p. ⊎-elim inl (λ q. inr (Memᴰ·append-right l q)) (List·Memᴰ·cases-cons p))
       (List·Memᴰ·append-cases l h)
 
   pub precedes-members : (l : List A) {a b : A} → Precedes a b l → Member a l × Member b l
@@ -123,18 +129,24 @@ module _ {A : Type 0} where
       ⊎-elim (λ p. (List·Memᴰ·head (p .0), List·Memᴰ·tail (p .1)))
       (λ p. (List·Memᴰ·tail (precedes-members l p .0), List·Memᴰ·tail (precedes-members l p .1))) (precedes-cases h)
 
-  pub precedes-inserted : (l : List A) (e : A) (m : List A) {a b : A} → Precedes a b (l ++ m) → Precedes a b (l ++ e ∷ m)
+  pub precedes-inserted : (l : List A) (e : A) (m : List A) {a b : A} → Precedes a b (l ++ m)
+      → Precedes a b (l ++ e ∷ m)
   precedes-inserted [] e m h = later h
   precedes-inserted (c ∷ l) e m h =
-      ⊎-elim (λ p. here (p .0) (member-inserted l e m (p .1))) (λ p. later (precedes-inserted l e m p)) (precedes-cases h)
+      ⊎-elim (λ p. here (p .0) (member-inserted l e m (p .1))) (λ p. later (precedes-inserted l e m p))
+      (precedes-cases h)
 
   pub precedes-old-or-put-in : (l : List A) (e : A) (m : List A) {a b : A} → Precedes a b (l ++ e ∷ m)
       → Precedes a b (l ++ m) ⊎ (((a ≡ e) × Member b m) ⊎ ((b ≡ e) × Member a l))
   precedes-old-or-put-in [] e m h = ⊎-elim (λ p. inr (inl p)) inl (precedes-cases h)
-  precedes-old-or-put-in (c ∷ l) e m {a} {b} h = ⊎-elim head (λ p. tail (precedes-old-or-put-in l e m p)) (precedes-cases h)
+  precedes-old-or-put-in (c ∷ l) e m {a} {b} h =
+      ⊎-elim head (λ p. tail (precedes-old-or-put-in l e m p)) (precedes-cases h)
     where
-      head : (a ≡ c) × Member b (l ++ e ∷ m) → Precedes a b (c ∷ (l ++ m)) ⊎ (((a ≡ e) × Member b m) ⊎ ((b ≡ e) × Member a (c ∷ l)))
-      head p = ⊎-elim (λ q. inr (inr (q, List·Memᴰ·head (p .0)))) (λ q. inl (here (p .0) q)) (member-old-or-put-in l e m (p .1))
+      head : (a ≡ c) × Member b (l ++ e ∷ m)
+          → Precedes a b (c ∷ (l ++ m)) ⊎ (((a ≡ e) × Member b m) ⊎ ((b ≡ e) × Member a (c ∷ l)))
+      head p =
+          ⊎-elim (λ q. inr (inr (q, List·Memᴰ·head (p .0)))) (λ q. inl (here (p .0) q))
+          (member-old-or-put-in l e m (p .1))
 
       tail : Precedes a b (l ++ m) ⊎ (((a ≡ e) × Member b m) ⊎ ((b ≡ e) × Member a l))
           → Precedes a b (c ∷ (l ++ m)) ⊎ (((a ≡ e) × Member b m) ⊎ ((b ≡ e) × Member a (c ∷ l)))
@@ -153,7 +165,8 @@ module _ {A : Type 0} where
   unfolding flatten
   member-of-flat [] h k = absurd (List·Memᴰ·not-nil k)
   member-of-flat (r ∷ ls) {a} h k =
-      ⊎-elim (λ q. Memᴰ·append-left _ (subst (Member a) q h)) (λ p. Memᴰ·append-right r (member-of-flat ls h p)) (List·Memᴰ·cases-cons k)
+      ⊎-elim (λ q. Memᴰ·append-left _ (subst (Member a) q h)) (λ p. Memᴰ·append-right r (member-of-flat ls h p))
+      (List·Memᴰ·cases-cons k)
 
   pub member-in-range : (ls : List (List A)) (i : ℕ) {a : A} → Member a (getD ls i []) → i < length ls
   member-in-range [] i m = absurd (List·Memᴰ·not-nil m)

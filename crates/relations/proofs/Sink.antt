@@ -1,5 +1,5 @@
 -- A relation that grows by edges into one vertex without outgoing edges, a sink.
-use mathlib.Core.Path.{_≡_, subst, ap, sym}
+use mathlib.Core.Path.{_≡_, subst}
 use mathlib.Core.Logic.{_⊎_, inl, inr, ⊎-elim}
 use Rattle.relations.specs.Closure.{Relation, Closure, edge, further, IsOrBefore}
 use Rattle.relations.proofs.Laws.{closure-grows, extend-before, first-edge}
@@ -19,7 +19,8 @@ module _ {A : Type 0} {R S : Relation A} {e : A} (sink : Sink R S e) where
   old-or-into-sink {a} (edge {b = b} r) = ⊎-elim inl (λ o. inr (edge o)) (sink .new-end-there a b r)
   old-or-into-sink {a} (further {b = b} {c = c} p r) =
       ⊎-elim inl
-      (λ o. ⊎-elim (λ q. absurd (sink .no-way-out c (subst (λ x. S x c) q r))) (λ q. inr (further q o)) (old-or-into-sink p))
+      (λ o. ⊎-elim (λ q. absurd (sink .no-way-out c (subst (λ x. S x c) q r))) (λ q. inr (further q o))
+      (old-or-into-sink p))
       (sink .new-end-there b c r)
 
   pub old-way : {a b : A} → (b ≡ e → ⊥) → Closure S a b → Closure R a b
@@ -49,4 +50,5 @@ module _ {A : Type 0} {R S : Relation A} {e : A} (sink : Sink R S e) where
 
   -- The closures themselves are again such a pair.
   pub closure-sink : Sink (Closure R) (Closure S) e
-  closure-sink = record { kept = λ a b. way-kept; no-way-out = λ b. sink-has-no-way-out; new-end-there = λ a b. old-or-into-sink }
+  closure-sink =
+      record { kept = λ a b. way-kept; no-way-out = λ b. sink-has-no-way-out; new-end-there = λ a b. old-or-into-sink }

@@ -1,11 +1,3 @@
-pub mod Lookup
-pub mod Growth
-pub mod WellFormed
-pub mod Start
-pub mod Sinks
-pub mod Decidable
-pub mod NewEdges
-pub mod Reachable
 pub mod NotRobust
 pub mod Seen
 pub mod Exchange

@@ -11,20 +11,26 @@ use Rattle.model.specs.Graph.{Id, order}
 use Rattle.model.specs.Order.{threadOrder, happensBefore, ScOrder}
 use Rattle.model.specs.Run.{State, Access, graphAfter, accessStep, andStep, ScRun}
 use Rattle.model.specs.Witness.{Stale, Witness, BeyondSc, NotRobust}
-use Rattle.robustness.proofs.Growth.{Addition, newId, grown, sc-order-grows}
-use Rattle.robustness.proofs.NewEdges.{own-before-new, new-before-later}
-use Rattle.robustness.proofs.Reachable.{Good, additionOf, graph-grown, run-good, sc-order-acyclic, sc-run-is-ra-run, same-location}
+use Rattle.model.proofs.Growth.{Addition, newId, grown, sc-order-grows}
+use Rattle.model.proofs.NewEdges.{own-before-new, new-before-later}
+use Rattle.model.proofs.Reachable.{Good, additionOf, graph-grown, run-good, sc-order-acyclic, sc-run-is-ra-run}
+use Rattle.model.proofs.Reachable.{same-location}
 
 -- Two stale accesses of a thread have the same newest write.
-pub same-newest-write : {p : Program} {s : State} {t : ℕ} (a b : Access p s t) (k : Stale a) (l : Stale b) → k .newest ≡ l .newest
+pub same-newest-write : {p : Program} {s : State} {t : ℕ} (a b : Access p s t) (k : Stale a) (l : Stale b)
+    → k .newest ≡ l .newest
 same-newest-write {p} {s} {t} a b k l =
     same-last (a .before ++ a .picked ∷ k .between) (b .before ++ b .picked ∷ l .between) (k .newest) (l .newest)
     (sym (whole a k) ∙ ap (order (s .graph)) (same-location a b) ∙ whole b l) .1
   where
-    whole : (c : Access p s t) (m : Stale c) → order (s .graph) (c .location) ≡ (c .before ++ c .picked ∷ m .between) ++ m .newest ∷ []
-    whole c m = c .split ∙ ap (λ r. c .before ++ c .picked ∷ r) (m .last) ∙ regroup-snoc (c .before) (c .picked) (m .between) (m .newest)
+    whole : (c : Access p s t) (m : Stale c)
+        → order (s .graph) (c .location) ≡ (c .before ++ c .picked ∷ m .between) ++ m .newest ∷ []
+    whole c m =
+        c .split ∙ ap (λ r. c .before ++ c .picked ∷ r) (m .last) ∙ regroup-snoc (c .before) (c .picked) (m .between)
+        (m .newest)
 
-module _ {p : Program} {schedule : List ℕ} {s : State} {t : ℕ} {kind : Kind} {x u : ℕ} (run : ScRun p schedule s) (w : Witness p s t kind x u) where
+module _ {p : Program} {schedule : List ℕ} {s : State} {t : ℕ} {kind : Kind} {x u : ℕ} (run : ScRun p schedule s)
+    (w : Witness p s t kind x u) where
   -- Whichever stale write the thread's next line picks, no SC run of any length builds the graph after it.
   pub stale-access-beyond-sc : (a : Access p s t) → Stale a → BeyondSc p (graphAfter a)
   stale-access-beyond-sc a k schedule′ s′ run′ same =

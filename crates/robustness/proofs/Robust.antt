@@ -1,23 +1,24 @@
 -- RB: a program without a witness in any SC-reachable state is robust.
-use mathlib.Core.Path.{_≡_, refl, sym, ap, _∙_, subst, subst⁻¹}
+use mathlib.Core.Path.{_≡_, refl, ap, _∙_, subst, subst⁻¹}
 use mathlib.Core.List.{List, [], _∷_, _++_, List·Memᴰ as Member}
-use mathlib.Core.Logic.{_⊎_, inl, inr, ⊎-elim, _≢_}
+use mathlib.Core.Logic.{inl, inr, ⊎-elim}
 use Prim.Native.Nat.{ℕ, zero, suc}
 use native.Mathlib.Omega.{arith}
-use Rattle.relations.specs.Closure.{Reaches, IsOrBefore}
+use Rattle.relations.specs.Closure.{IsOrBefore}
 use Rattle.relations.proofs.Lists.{Snoc, empty-or-snoc, member-put-in}
 use Rattle.model.specs.Program.{Program}
 use Rattle.model.specs.Thread.{kindOf}
-use Rattle.model.specs.Graph.{Id, order, threadEvents, valueOf}
-use Rattle.model.specs.Order.{HappensBefore, ScOrder}
-use Rattle.model.specs.Run.{State, threadOf, Access, stateAfter, Allowed, localStep, accessStep, noStep, andStep, ScStep, RaStep, RaRun}
+use Rattle.model.specs.Graph.{valueOf}
+use Rattle.model.specs.Order.{ScOrder}
+use Rattle.model.specs.Run.{State, threadOf, Access, stateAfter, Allowed, localStep, accessStep, noStep, andStep}
+use Rattle.model.specs.Run.{RaStep, RaRun}
 use Rattle.model.specs.Witness.{NoWitness, Robust}
-use Rattle.robustness.proofs.Decidable.{dec-sc-reaches}
 use Rattle.robustness.proofs.Seen.{Seen}
 use Rattle.robustness.proofs.Rotate.{Steps, none, more, steps-good, run-of-steps, LastSeen, rotate}
 use Rattle.robustness.proofs.Push.{Pushed, push}
 
--- An SC run of one step more to the state after the access a; and the SC-reachable state at which that access was made with a newest write
+-- An SC run of one step more to the state after the access a; and the SC-reachable state at which that access was
+-- made with a newest write
 -- of the same value.
 pub record Claimed (p : Program) (n : ℕ) (s : State) (t : ℕ) (a : Access p s t) : Type 0 where
   pub steps : Steps p (suc n) (stateAfter a)
@@ -31,7 +32,8 @@ pub record Claimed (p : Program) (n : ℕ) (s : State) (t : ℕ) (a : Access p s
 
 abbrev pub Claim : Program → ℕ → ℕ → Type 0
 Claim p t n =
-    (s : State) → Steps p n s → (a : Access p s t) → Allowed p (s .graph) t (a .effect .action) (a .after) → Claimed p n s t a
+    (s : State) → Steps p n s → (a : Access p s t) → Allowed p (s .graph) t (a .effect .action) (a .after)
+    → Claimed p n s t a
 
 module _ {p : Program} (lacking : NoWitness p) {n : ℕ} {s : State} {t : ℕ} (run : Steps p n s) (a : Access p s t)
     (ok : Allowed p (s .graph) t (a .effect .action) (a .after)) where
@@ -71,7 +73,8 @@ module _ {p : Program} (lacking : NoWitness p) {n : ℕ} {s : State} {t : ℕ} (
             ofValue = refl;
           })
 
-  claim-stale : (k : Snoc (a .after)) → LastSeen p n s (k .final) → ((m : ℕ) → n ≡ suc m → Claim p t m) → Claimed p n s t a
+  claim-stale : (k : Snoc (a .after)) → LastSeen p n s (k .final) → ((m : ℕ) → n ≡ suc m → Claim p t m)
+      → Claimed p n s t a
   claim-stale k h earlier =
       record {
         steps = subst⁻¹ (λ m. Steps p (suc m) (stateAfter a)) (h .count) (more (c .steps) (w .then));
@@ -85,7 +88,9 @@ module _ {p : Program} (lacking : NoWitness p) {n : ℕ} {s : State} {t : ℕ} (
       }
     where
       w : Pushed p (h .thread) t (h .before) s a
-      w = push (steps-good (h .steps)) (λ q. unseen k (subst (λ u. Seen (s .graph) u (k .final)) q (h .seen))) (h .step) a ok k
+      w =
+          push (steps-good (h .steps)) (λ q. unseen k (subst (λ u. Seen (s .graph) u (k .final)) q (h .seen)))
+          (h .step) a ok k
 
       c : Claimed p (h .fewer) (h .before) t (w .first)
       c = earlier (h .fewer) (h .count) (h .before) (h .steps) (w .first) (w .allowed)
@@ -94,21 +99,28 @@ module _ {p : Program} (lacking : NoWitness p) {n : ℕ} {s : State} {t : ℕ} (
   claim-step earlier = ⊎-elim claim-newest (λ k. claim-stale k (last k) earlier) (empty-or-snoc (a .after))
     where
       last : (k : Snoc (a .after)) → LastSeen p n s (k .final)
-      last k = rotate run (a .location) (a .before) (a .picked) (k .front) (k .final) (a .split ∙ ap (λ l. a .before ++ a .picked ∷ l) (k .whole))
+      last k =
+          rotate run (a .location) (a .before) (a .picked) (k .front) (k .final)
+          (a .split ∙ ap (λ l. a .before ++ a .picked ∷ l) (k .whole))
 
 pub claim : {p : Program} → NoWitness p → (t n : ℕ) → Claim p t n
 claim lacking t zero s run a ok =
     claim-step lacking run a ok (λ m q. absurd (let z : _≡_ {A = ℕ} 0 1 = omega arith in omega arith))
 claim {p} lacking t (suc n) s run a ok =
-    claim-step lacking run a ok (λ m q. let e : n ≡ m = omega arith in subst (Claim p t) e (λ s₀ r b k. claim lacking t n s₀ r b k))
+    claim-step lacking run a ok
+    (λ m q. let e : n ≡ m = omega arith in subst (Claim p t) e (λ s₀ r b k. claim lacking t n s₀ r b k))
 
-pub ra-step-reached : {p : Program} → NoWitness p → {n t : ℕ} {s s′ : State} → Steps p n s → RaStep p t s s′ → Steps p (suc n) s′
+pub ra-step-reached : {p : Program} → NoWitness p → {n t : ℕ} {s s′ : State} → Steps p n s → RaStep p t s s′
+    → Steps p (suc n) s′
 ra-step-reached lacking r (localStep q l e) = more r (localStep q l e)
-ra-step-reached {p} lacking {n} {t} {s} r (accessStep a ok e) = subst⁻¹ (Steps p (suc n)) e (claim lacking t n s r a ok .steps)
+ra-step-reached {p} lacking {n} {t} {s} r (accessStep a ok e) =
+    subst⁻¹ (Steps p (suc n)) e (claim lacking t n s r a ok .steps)
 
-pub ra-run-reached : {p : Program} → NoWitness p → {schedule : List ℕ} {s : State} → RaRun p schedule s → (n : ℕ) × Steps p n s
+pub ra-run-reached : {p : Program} → NoWitness p → {schedule : List ℕ} {s : State} → RaRun p schedule s
+    → (n : ℕ) × Steps p n s
 ra-run-reached lacking noStep = (zero, none)
-ra-run-reached lacking (andStep r k) = let h = ra-run-reached lacking r in (suc (h .0), ra-step-reached lacking (h .1) k)
+ra-run-reached lacking (andStep r k) =
+    let h = ra-run-reached lacking r in (suc (h .0), ra-step-reached lacking (h .1) k)
 
 -- RB.
 pub no-witness-robust : (p : Program) → NoWitness p → Robust p

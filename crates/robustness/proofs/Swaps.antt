@@ -1,31 +1,33 @@
--- When an SC access and a later access of another thread change places: at different locations always; at one location where the SC access
+-- When an SC access and a later access of another thread change places: at different locations always; at one
+-- location where the SC access
 -- still meets the write that it picked, or is a plain write.
-use mathlib.Core.Path.{_≡_, refl, sym, ap, _∙_, subst, subst⁻¹}
-use mathlib.Core.Bool.{true, false}
+use mathlib.Core.Path.{_≡_, refl, sym, ap, _∙_, subst⁻¹}
+use mathlib.Core.Bool.{false}
 use mathlib.Core.List.{List, [], _∷_, _++_, append-nil, append-assoc, List·Memᴰ as Member}
-use mathlib.Core.Option.{Option, some}
 use mathlib.Core.Logic.{_⊎_, inl, inr, ⊎-elim, _≢_}
-use Prim.Native.Nat.{ℕ, _<_}
-use lib.ListN.{length, set}
+use Prim.Native.Nat.{ℕ}
+use lib.ListN.{set}
 use lib.Seq.{set-comm, set-set}
 use Rattle.relations.proofs.Lists.{Snoc, split-has-last, same-last, regroup-snoc, regroup-after, member-put-in}
 use Rattle.model.specs.Program.{Program}
-use Rattle.model.specs.Thread.{Action, reads, writes, updates, nextLine}
-use Rattle.model.specs.Graph.{Id, event, Event, Graph, eventsOf, order, eventAt, valueWritten, valueOf, nextId, eventOf, directlyAfter, extend}
+use Rattle.model.specs.Thread.{Action, reads, writes, updates}
+use Rattle.model.specs.Graph.{Id, Graph, order, valueWritten, valueOf, nextId, eventOf, directlyAfter}
 use Rattle.model.specs.Run.{State, threadOf, Access, graphAfter, stateAfter, writing}
-use Rattle.robustness.proofs.Lookup.{other-order, new-order}
-use Rattle.robustness.proofs.Growth.{hasLocation, not-written, order-here, order-unwritten}
-use Rattle.robustness.proofs.Reachable.{Good, additionOf}
+use Rattle.model.proofs.Lookup.{other-order, new-order}
+use Rattle.model.proofs.Growth.{hasLocation, not-written, order-here, order-unwritten}
+use Rattle.model.proofs.Reachable.{Good, additionOf}
 use Rattle.robustness.proofs.Exchange.{listed-event-stays, pulled, Swap}
 use Rattle.robustness.proofs.PlainWrite.{plain-write-ignores}
 
-pub directly-after-append : (a : Action) (e : Id) (l m : List Id) → directlyAfter a e (l ++ m) ≡ directlyAfter a e l ++ m
+pub directly-after-append : (a : Action) (e : Id) (l m : List Id)
+    → directlyAfter a e (l ++ m) ≡ directlyAfter a e l ++ m
 unfolding directlyAfter
 directly-after-append reads e l m = refl
 directly-after-append (writes v) e l m = refl
 directly-after-append (updates v) e l m = refl
 
-module _ {p : Program} {s : State} {q t : ℕ} (f : Good p s) (a : Access p s q) (newest : a .after ≡ []) (b : Access p (stateAfter a) t) (n : q ≢ t) where
+module _ {p : Program} {s : State} {q t : ℕ} (f : Good p s) (a : Access p s q) (newest : a .after ≡ [])
+    (b : Access p (stateAfter a) t) (n : q ≢ t) where
   split-newest : order (s .graph) (a .location) ≡ a .before ++ a .picked ∷ []
   split-newest = a .split ∙ ap (λ l. a .before ++ a .picked ∷ l) newest
 
@@ -50,10 +52,16 @@ module _ {p : Program} {s : State} {q t : ℕ} (f : Good p s) (a : Access p s q)
         final = a .picked;
         found = other-order (s .graph) t _ (b .location) _ (a .location) k ∙ split-newest;
         allows = ap (a .effects) (value-kept (b .after) (split-elsewhere k)) ∙ a .allows;
-        sameEvent = ap (λ u. eventOf (a .effect .action) (a .location) u (a .picked)) (value-kept (b .after) (split-elsewhere k));
+        sameEvent =
+            ap (λ u. eventOf (a .effect .action) (a .location) u (a .picked))
+            (value-kept (b .after) (split-elsewhere k));
         sameOrders =
             set-comm (s .graph .orders) (b .location) (a .location) _ _ (λ j. k (sym j))
-            ∙ ap (λ l. set (set (s .graph .orders) (a .location) (a .before ++ a .picked ∷ directlyAfter (a .effect .action) (nextId (s .graph) q) l)) (b .location) there) (sym newest);
+            ∙ ap
+            (λ l. set
+            (set (s .graph .orders) (a .location)
+            (a .before ++ a .picked ∷ directlyAfter (a .effect .action) (nextId (s .graph) q) l)) (b .location) there)
+            (sym newest);
       }
     where
       there : List Id
@@ -64,10 +72,13 @@ module _ {p : Program} {s : State} {q t : ℕ} (f : Good p s) (a : Access p s q)
       → order (s .graph) (b .location) ≡ b .before ++ b .picked ∷ b .after
   unfolding stateAfter graphAfter
   split-unwritten k w =
-      ap (order (s .graph)) (sym k) ∙ sym (order-here (additionOf f a) ∙ order-unwritten (additionOf f a) w) ∙ ap (order (graphAfter a)) k ∙ b .split
+      ap (order (s .graph)) (sym k) ∙ sym (order-here (additionOf f a) ∙ order-unwritten (additionOf f a) w) ∙ ap
+      (order (graphAfter a)) k ∙ b .split
 
-  pub rest-unwritten : writing (a .effect .action) ≡ false → (l : List Id) → l ≡ l ++ directlyAfter (a .effect .action) (nextId (s .graph) q) []
-  rest-unwritten w l = sym (append-nil l) ∙ ap (λ m. l ++ m) (sym (not-written (a .effect .action) (nextId (s .graph) q) [] w))
+  pub rest-unwritten : writing (a .effect .action) ≡ false → (l : List Id)
+      → l ≡ l ++ directlyAfter (a .effect .action) (nextId (s .graph) q) []
+  rest-unwritten w l =
+      sym (append-nil l) ∙ ap (λ m. l ++ m) (sym (not-written (a .effect .action) (nextId (s .graph) q) [] w))
 
   -- Why the SC access at the same location does the same after the other one.
   pub data SameThere (earlier : List Id) : Type 0 where
@@ -75,7 +86,8 @@ module _ {p : Program} {s : State} {q t : ℕ} (f : Good p s) (a : Access p s q)
     older : Snoc earlier → SameThere earlier
     plain : (v : ℕ) → a .effect .action ≡ writes v → SameThere earlier
 
-  module _ (k : a .location ≡ b .location) (earlier : List Id) (split : order (s .graph) (b .location) ≡ b .before ++ b .picked ∷ earlier)
+  module _ (k : a .location ≡ b .location) (earlier : List Id)
+      (split : order (s .graph) (b .location) ≡ b .before ++ b .picked ∷ earlier)
       (rest : b .after ≡ earlier ++ directlyAfter (a .effect .action) (nextId (s .graph) q) []) where
     placed : List Id → List Id
     placed l = b .before ++ b .picked ∷ directlyAfter (b .effect .action) (nextId (s .graph) t) l
@@ -96,7 +108,9 @@ module _ {p : Program} {s : State} {q t : ℕ} (f : Good p s) (a : Access p s q)
         record {
           front = a .before;
           final = a .picked;
-          whole = ap (λ l. b .before ++ b .picked ∷ l) (not-written (b .effect .action) (nextId (s .graph) t) earlier w) ∙ sym one-order;
+          whole =
+              ap (λ l. b .before ++ b .picked ∷ l) (not-written (b .effect .action) (nextId (s .graph) t) earlier w)
+              ∙ sym one-order;
           same = inl refl;
         }
     find (older r) =
@@ -105,16 +119,20 @@ module _ {p : Program} {s : State} {q t : ℕ} (f : Good p s) (a : Access p s q)
           final = r .final;
           whole =
               ap placed (r .whole)
-              ∙ ap (λ l. b .before ++ b .picked ∷ l) (directly-after-append (b .effect .action) (nextId (s .graph) t) (r .front) (r .final ∷ []))
-              ∙ regroup-snoc (b .before) (b .picked) (directlyAfter (b .effect .action) (nextId (s .graph) t) (r .front)) (r .final);
+              ∙ ap (λ l. b .before ++ b .picked ∷ l)
+              (directly-after-append (b .effect .action) (nextId (s .graph) t) (r .front) (r .final ∷ []))
+              ∙ regroup-snoc (b .before) (b .picked)
+              (directlyAfter (b .effect .action) (nextId (s .graph) t) (r .front)) (r .final);
           same =
               inl
               (sym
               (same-last (a .before) (b .before ++ b .picked ∷ r .front) (a .picked) (r .final)
-              (one-order ∙ ap (λ l. b .before ++ b .picked ∷ l) (r .whole) ∙ regroup-snoc (b .before) (b .picked) (r .front) (r .final)) .1));
+              (one-order ∙ ap (λ l. b .before ++ b .picked ∷ l) (r .whole) ∙ regroup-snoc (b .before) (b .picked)
+              (r .front) (r .final)) .1));
         }
     find (plain v w) =
-        let r = split-has-last (b .before) (b .picked) (directlyAfter (b .effect .action) (nextId (s .graph) t) earlier) in
+        let r = split-has-last (b .before) (b .picked)
+        (directlyAfter (b .effect .action) (nextId (s .graph) t) earlier) in
         record { front = r .front; final = r .final; whole = r .whole; same = inr (v, w) }
 
     same-event : (u u′ : ℕ) (w w′ : Id) (v : ℕ) → a .effect .action ≡ writes v
@@ -130,12 +148,17 @@ module _ {p : Program} {s : State} {q t : ℕ} (f : Good p s) (a : Access p s q)
           front = r .front;
           final = r .final;
           found = there ∙ r .whole;
-          allows = ⊎-elim (λ z. ap (λ w. a .effects (valueOf here w)) z ∙ ap (a .effects) (value-kept earlier split) ∙ a .allows)
-              (λ z. plain-write-ignores p q (threadOf s q) (a .effects) (valueOf (s .graph) (a .picked)) (valueOf here (r .final)) (a .line) (a .allows) (z .1)) (r .same);
+          allows =
+              ⊎-elim
+              (λ z. ap (λ w. a .effects (valueOf here w)) z ∙ ap (a .effects) (value-kept earlier split) ∙ a .allows)
+              (λ z. plain-write-ignores p q (threadOf s q) (a .effects) (valueOf (s .graph) (a .picked))
+              (valueOf here (r .final)) (a .line) (a .allows) (z .1)) (r .same);
           sameEvent =
               ⊎-elim
-              (λ z. ap (λ w. eventOf (a .effect .action) (a .location) (valueOf here w) w) z ∙ ap (λ u. eventOf (a .effect .action) (a .location) u (a .picked)) (value-kept earlier split))
-              (λ z. same-event (valueOf here (r .final)) (valueOf (s .graph) (a .picked)) (r .final) (a .picked) (z .0) (z .1)) (r .same);
+              (λ z. ap (λ w. eventOf (a .effect .action) (a .location) (valueOf here w) w) z ∙ ap
+              (λ u. eventOf (a .effect .action) (a .location) u (a .picked)) (value-kept earlier split))
+              (λ z. same-event (valueOf here (r .final)) (valueOf (s .graph) (a .picked)) (r .final) (a .picked)
+              (z .0) (z .1)) (r .same);
           sameOrders =
               (λ i. set (set (s .graph .orders) (b .location) (placed earlier)) (k i) (r .front ++ r .final ∷ newA))
               ∙ set-set (s .graph .orders) (b .location) (placed earlier) (r .front ++ r .final ∷ newA)
@@ -151,7 +174,9 @@ module _ {p : Program} {s : State} {q t : ℕ} (f : Good p s) (a : Access p s q)
         here = stateAfter (pulled f a b n earlier split) .graph
 
         there : order here (a .location) ≡ placed earlier
-        there = ap (order here) k ∙ new-order (s .graph) t _ (b .location) _ (hasLocation (additionOf f (pulled f a b n earlier split)))
+        there =
+            ap (order here) k ∙ new-order (s .graph) t _ (b .location) _
+            (hasLocation (additionOf f (pulled f a b n earlier split)))
 
         newA : List Id
         newA = directlyAfter (a .effect .action) (nextId (s .graph) q) []
@@ -165,6 +190,8 @@ module _ {p : Program} {s : State} {q t : ℕ} (f : Good p s) (a : Access p s q)
         together : r .front ++ r .final ∷ newA ≡ placed (b .after)
         together =
             sym (regroup-after (r .front) (r .final) newA) ∙ ap (λ l. l ++ newA) (sym (r .whole))
-            ∙ append-assoc (b .before) (b .picked ∷ directlyAfter (b .effect .action) (nextId (s .graph) t) earlier) newA
-            ∙ ap (λ l. b .before ++ b .picked ∷ l) (sym (directly-after-append (b .effect .action) (nextId (s .graph) t) earlier newA))
+            ∙ append-assoc (b .before)
+            (b .picked ∷ directlyAfter (b .effect .action) (nextId (s .graph) t) earlier) newA
+            ∙ ap (λ l. b .before ++ b .picked ∷ l)
+            (sym (directly-after-append (b .effect .action) (nextId (s .graph) t) earlier newA))
             ∙ ap placed (sym rest)

@@ -1,22 +1,23 @@
 -- The event of an access has no way out: in happens-before always, in SC order where the picked write is the newest.
 use mathlib.Core.Path.{_≡_, refl, sym, ap, _∙_, subst, subst⁻¹}
 use mathlib.Core.List.{List, [], _∷_, _++_, List·Memᴰ as Member, List·Memᴰ·not-nil, List·Memᴰ·append-cases}
-use mathlib.Core.Option.{Option, none, some}
-use mathlib.Core.Logic.{_⊎_, inl, inr, ⊎-elim, _≢_}
-use Prim.Native.Nat.{ℕ, suc, _<_}
+use mathlib.Core.Option.{some}
+use mathlib.Core.Logic.{_⊎_, inl, inr, ⊎-elim}
+use Prim.Native.Nat.{ℕ, _<_}
 use native.Mathlib.Omega.{arith}
 use native.Mathlib.Decide.{decLt}
 use lib.ListN.{length}
-use Rattle.relations.specs.Closure.{Closure, Precedes}
+use Rattle.relations.specs.Closure.{Precedes}
 use Rattle.relations.proofs.Sink.{Sink, closure-sink, sink-keeps-acyclic}
 use Rattle.relations.proofs.Lists.{length-of-snoc, precedes-members, precedes-old-or-put-in, precedes-put-in}
-use Rattle.model.specs.Graph.{Id, start, event, Event, Graph, eventsOf, order, eventAt, sourceOf, locationOf}
+use Rattle.model.specs.Graph.{Id, event, Event, Graph, eventsOf, order, eventAt, sourceOf, locationOf}
 use Rattle.model.specs.Order.{ThreadOrder, starting, within, ReadsFrom, ModificationOrder, at, FromRead}
-use Rattle.model.specs.Order.{HappensEdge, threadOrder, readsFrom, HappensBefore, ScEdge, happensBefore, modificationOrder, fromRead, ScOrder}
-use Rattle.robustness.proofs.Lookup.{events-after, own-events, same-locations, reading-event}
-use Rattle.robustness.proofs.Growth.{Addition, in-order, newId, newEvent, newOrder, grown, upToPicked, old-order, precedes-old-or-new}
-use Rattle.robustness.proofs.Growth.{happens-edge-grows, sc-edge-grows, new-there, there-old-or-new}
-use Rattle.robustness.proofs.WellFormed.{WellFormed, listed-not-next, new-source}
+use Rattle.model.specs.Order.{HappensEdge, threadOrder, readsFrom, ScEdge, happensBefore, modificationOrder}
+use Rattle.model.specs.Order.{fromRead, ScOrder}
+use Rattle.model.proofs.Lookup.{events-after, own-events, same-locations, reading-event}
+use Rattle.model.proofs.Growth.{Addition, in-order, newId, newEvent, newOrder, grown, precedes-old-or-new}
+use Rattle.model.proofs.Growth.{happens-edge-grows, sc-edge-grows, new-there, there-old-or-new}
+use Rattle.model.proofs.WellFormed.{WellFormed, listed-not-next, new-source}
 
 -- A write stands in the order of one location only.
 pub one-location : {g : Graph} → WellFormed g → (a : Id) (x y : ℕ) → Member a (order g x) → Member a (order g y) → x ≡ y
@@ -28,16 +29,20 @@ one-location f a x y m n =
 -- What stands before something stands in front of the last.
 in-front : (l : List Id) (c : Id) {a b : Id} → Precedes a b (l ++ c ∷ []) → Member a l
 in-front l c {a} h =
-    ⊎-elim (λ p. ⊎-elim (λ m. m) (λ m. absurd (List·Memᴰ·not-nil m)) (List·Memᴰ·append-cases l (precedes-members (l ++ []) p .0)))
+    ⊎-elim
+    (λ p. ⊎-elim (λ m. m) (λ m. absurd (List·Memᴰ·not-nil m))
+    (List·Memᴰ·append-cases l (precedes-members (l ++ []) p .0)))
     (⊎-elim (λ p. absurd (List·Memᴰ·not-nil (p .1))) (λ p. p .1)) (precedes-old-or-put-in l c [] h)
 
 module _ {g : Graph} (f : WellFormed g) (d : Addition g) where
-  pub place-old-or-new : (u i : ℕ) → i < length (eventsOf (grown d) u) → (event u i ≡ newId d) ⊎ (i < length (eventsOf g u))
+  pub place-old-or-new : (u i : ℕ) → i < length (eventsOf (grown d) u)
+      → (event u i ≡ newId d) ⊎ (i < length (eventsOf g u))
   place-old-or-new u i h =
       ⊎-elim (λ p. inr (subst (λ es. i < length es) (p .1) h)) (λ p. own (p .0) (subst (λ es. i < length es) (p .1) h))
       (events-after g (d .thread) (newEvent d) (d .location) (newOrder d) u (d .hasThread))
     where
-      own : u ≡ d .thread → i < length (eventsOf g u ++ newEvent d ∷ []) → (event u i ≡ newId d) ⊎ (i < length (eventsOf g u))
+      own : u ≡ d .thread → i < length (eventsOf g u ++ newEvent d ∷ [])
+          → (event u i ≡ newId d) ⊎ (i < length (eventsOf g u))
       own q k = go (decLt i (length (eventsOf g u)))
         where
           go : Dec (i < length (eventsOf g u)) → (event u i ≡ newId d) ⊎ (i < length (eventsOf g u))
@@ -53,7 +58,8 @@ module _ {g : Graph} (f : WellFormed g) (d : Addition g) where
       ⊎-elim
       (λ n. listed-not-next f (d .thread) (d .location) (d .picked) (in-order d)
       (sym (new-source (d .action) (d .location) _ (d .picked) (ap (λ v. sourceOf (some v)) (sym (n .1)) ∙ e .2))))
-      (λ o. listed-not-next f (d .thread) (locationOf (e .0)) (newId d) (f .sources-listed r (newId d) (e .0) o (e .2)) refl)
+      (λ o. listed-not-next f (d .thread) (locationOf (e .0)) (newId d)
+      (f .sources-listed r (newId d) (e .0) o (e .2)) refl)
       (there-old-or-new d r (e .1))
 
   last-in-thread : {a b : Id} → ThreadOrder (grown d) a b → a ≡ newId d → ⊥
@@ -98,8 +104,10 @@ module _ {g : Graph} (f : WellFormed g) (d : Addition g) where
     pub picked-is-last : (b : Id) (y : ℕ) → Precedes (d .picked) b (order g y) → ⊥
     picked-is-last b y h =
         let q = one-location f (d .picked) y (d .location) (precedes-members (order g y) h .0) (in-order d) in
-        let m = in-front (d .before) (d .picked) (subst (Precedes (d .picked) b) last-there (subst (λ z. Precedes (d .picked) b (order g z)) q h)) in
-        f .no-repeats (d .location) (d .picked) (subst⁻¹ (Precedes (d .picked) (d .picked)) last-there (precedes-put-in (d .before) (d .picked) [] m))
+        let m = in-front (d .before) (d .picked)
+        (subst (Precedes (d .picked) b) last-there (subst (λ z. Precedes (d .picked) b (order g z)) q h)) in
+        f .no-repeats (d .location) (d .picked)
+        (subst⁻¹ (Precedes (d .picked) (d .picked)) last-there (precedes-put-in (d .before) (d .picked) [] m))
 
     new-precedes-none : (b : Id) → ModificationOrder (grown d) (newId d) b → ⊥
     new-precedes-none b (at y h) =
@@ -129,19 +137,23 @@ module _ {g : Graph} (f : WellFormed g) (d : Addition g) where
 
     later-new : {a b : Id} → ModificationOrder (grown d) a b → (b ≡ newId d) ⊎ ModificationOrder g a b
     later-new {a} {b} (at y h) =
-        ⊎-elim (λ o. inr (at y o)) (⊎-elim (λ n. absurd (none-after b (n .1))) (λ n. inl (n .0))) (precedes-old-or-new d y h)
+        ⊎-elim (λ o. inr (at y o)) (⊎-elim (λ n. absurd (none-after b (n .1))) (λ n. inl (n .0)))
+        (precedes-old-or-new d y h)
 
     sc-new : (a b : Id) → ScEdge (grown d) a b → (b ≡ newId d) ⊎ ScEdge g a b
-    sc-new a b (happensBefore h) = ⊎-elim inl (λ o. inr (happensBefore o)) (closure-sink happens-sink .new-end-there a b h)
+    sc-new a b (happensBefore h) =
+        ⊎-elim inl (λ o. inr (happensBefore o)) (closure-sink happens-sink .new-end-there a b h)
     sc-new a b (modificationOrder h) = ⊎-elim inl (λ o. inr (modificationOrder o)) (later-new h)
     sc-new a b (fromRead r) = ⊎-elim inl (λ o. read o (there-old-or-new d a (e .1))) (later-new (r .later))
       where
         e : (v : Event) × (eventAt (grown d) a ≡ some v) × (sourceOf (some v) ≡ some (r .source))
         e = reading-event (grown d) a (r .read)
 
-        read : ModificationOrder g (r .source) b → ((a ≡ newId d) × (e .0 ≡ newEvent d)) ⊎ (eventAt g a ≡ some (e .0)) → (b ≡ newId d) ⊎ ScEdge g a b
+        read : ModificationOrder g (r .source) b → ((a ≡ newId d) × (e .0 ≡ newEvent d)) ⊎ (eventAt g a ≡ some (e .0))
+            → (b ≡ newId d) ⊎ ScEdge g a b
         read o (inl n) = absurd (new-reads-last b (subst (λ z. FromRead (grown d) z b) (n .0) r))
-        read o (inr k) = inr (fromRead (record { source = r .source; read = ap sourceOf k ∙ e .2; later = o; other = r .other }))
+        read o (inr k) =
+            inr (fromRead (record { source = r .source; read = ap sourceOf k ∙ e .2; later = o; other = r .other }))
 
     pub sc-sink : Sink (ScEdge g) (ScEdge (grown d)) (newId d)
     sc-sink = record { kept = sc-edge-grows d; no-way-out = sc-none-out; new-end-there = sc-new }

@@ -1,7 +1,7 @@
 -- The edges of the event that an access adds.
 use mathlib.Core.Path.{_≡_, refl, sym, ap, _∙_, subst⁻¹}
 use mathlib.Core.Bool.{true, false}
-use mathlib.Core.List.{List, [], _∷_, _++_, List·Memᴰ as Member, List·Memᴰ·tail, Memᴰ·append-right}
+use mathlib.Core.List.{[], List·Memᴰ as Member, List·Memᴰ·tail, Memᴰ·append-right}
 use mathlib.Core.Option.{some}
 use mathlib.Core.Logic.{⊎-elim}
 use Prim.Native.Nat.{ℕ, _<_}
@@ -9,14 +9,16 @@ use native.Mathlib.Omega.{arith}
 use lib.ListN.{length}
 use Rattle.relations.specs.Closure.{Precedes, edge}
 use Rattle.relations.proofs.Lists.{precedes-after, precedes-put-in, member-put-in, length-of-snoc}
 use Rattle.model.specs.Thread.{Action, reads, writes, updates}
 use Rattle.model.specs.Graph.{Id, Graph, eventsOf, order, sourceOf, eventOf, threadEvents}
-use Rattle.model.specs.Order.{ThreadOrder, within, ReadsFrom, ModificationOrder, at, readsFrom, ScEdge, happensBefore, modificationOrder, fromRead}
+use Rattle.model.specs.Order.{ThreadOrder, within, ReadsFrom, ModificationOrder, at, readsFrom, ScEdge}
+use Rattle.model.specs.Order.{happensBefore, modificationOrder, fromRead}
 use Rattle.model.specs.Run.{writing}
-use Rattle.robustness.proofs.Lookup.{place-of-own, own-events}
-use Rattle.robustness.proofs.Growth.{Addition, newId, newEvent, newOrder, grown, upToPicked, order-here, order-written, writing-cases}
-use Rattle.robustness.proofs.Growth.{new-there, precedes-stays}
-use Rattle.robustness.proofs.WellFormed.{WellFormed, listed-not-next}
+use Rattle.model.proofs.Lookup.{place-of-own, own-events}
+use Rattle.model.proofs.Growth.{Addition, newId, newEvent, newOrder, grown, upToPicked, order-here}
+use Rattle.model.proofs.Growth.{order-written, writing-cases}
+use Rattle.model.proofs.Growth.{new-there, precedes-stays}
+use Rattle.model.proofs.WellFormed.{WellFormed, listed-not-next}
 
 -- An access that does not write reads.
 pub unwriting-reads : (a : Action) (x u : ℕ) (w : Id) → writing a ≡ false → sourceOf (some (eventOf a x u w)) ≡ some w
@@ -60,7 +62,9 @@ module _ {g : Graph} (f : WellFormed g) (d : Addition g) where
       writes′ : writing (d .action) ≡ true → ScEdge (grown d) (newId d) v
       writes′ w =
           modificationOrder
-          (at (d .location) (subst⁻¹ (Precedes (newId d) v) (order-here d ∙ order-written d w) (precedes-after (upToPicked d) (newId d) m)))
+          (at (d .location)
+          (subst⁻¹ (Precedes (newId d) v) (order-here d ∙ order-written d w)
+          (precedes-after (upToPicked d) (newId d) m)))
 
       listed : Member v (order g (d .location))
       listed = subst⁻¹ (Member v) (d .split) (Memᴰ·append-right (d .before) (List·Memᴰ·tail m))
@@ -71,6 +75,9 @@ module _ {g : Graph} (f : WellFormed g) (d : Addition g) where
           (record {
             source = d .picked;
             read = picked-read d w;
-            later = at (d .location) (precedes-stays d (d .location) (subst⁻¹ (Precedes (d .picked) v) (d .split) (precedes-after (d .before) (d .picked) m)));
+            later =
+                at (d .location)
+                (precedes-stays d (d .location)
+                (subst⁻¹ (Precedes (d .picked) v) (d .split) (precedes-after (d .before) (d .picked) m)));
             other = λ q. listed-not-next f (d .thread) (d .location) v listed (sym q);
           })

@@ -1,30 +1,29 @@
 -- What holds of every state that runs reach; SC steps as release/acquire steps; at most one SC step for each thread.
 use mathlib.Core.Path.{_≡_, refl, sym, ap, _∙_, subst, subst⁻¹}
-use mathlib.Core.Bool.{Bool, true, false}
-use mathlib.Core.List.{List, [], _∷_, _++_, map, List·Memᴰ as Member, List·Memᴰ·not-nil}
-use mathlib.Core.Option.{Option, none, some}
-use mathlib.Core.Logic.{_⊎_, inl, inr, ⊎-elim}
+use mathlib.Core.List.{List, [], _∷_, _++_, List·Memᴰ as Member, List·Memᴰ·not-nil}
+use mathlib.Core.Option.{Option}
 use Prim.Native.Nat.{ℕ, _<_}
 use native.Mathlib.Omega.{arith}
 use native.Mathlib.Decide.{decLt}
-use lib.ListN.{length, getD, getElem?, set, length-set, length-map, List·getD-eq-default}
-use Rattle.relations.specs.Closure.{Closure}
-use Rattle.relations.proofs.Laws.{first-edge}
-use Rattle.relations.proofs.Lists.{same-last, precedes-members}
-use Rattle.model.specs.Program.{Program, Line, linesOf}
-use Rattle.model.specs.Thread.{ThreadState, startThread, Action, Effect, NextLine, ended, local, access, does, doesAt, nextLine}
-use Rattle.model.specs.Graph.{Id, start, event, Graph, eventsOf, order, startGraph, valueOf, nextId, eventOf, directlyAfter, extend}
-use Rattle.model.specs.Order.{ScOrder, ScEdge}
-use Rattle.model.specs.Run.{State, startState, threadOf, Access, graphAfter, stateAfter, afterLocal, Rule, Newest, Allowed, startsWithUpdate}
+use lib.ListN.{length, getElem?, set, length-set, length-map, List·getD-eq-default}
+use Rattle.relations.proofs.Lists.{same-last}
+use Rattle.model.specs.Program.{Program, Line}
+use Rattle.model.specs.Thread.{ThreadState, startThread, Action, Effect, NextLine, ended, local, access, doesAt}
+use Rattle.model.specs.Thread.{nextLine}
+use Rattle.model.specs.Graph.{Id, Graph, order, valueOf, nextId, eventOf, directlyAfter, extend}
+use Rattle.model.specs.Order.{ScOrder}
+use Rattle.model.specs.Run.{State, startState, threadOf, Access, graphAfter, stateAfter, afterLocal, Rule}
+use Rattle.model.specs.Run.{Allowed, startsWithUpdate}
 use Rattle.model.specs.Run.{Step, localStep, accessStep, Run, noStep, andStep, ScStep, RaStep, ScRun, RaRun}
-use Rattle.robustness.proofs.Lookup.{same-threads, same-locations}
-use Rattle.robustness.proofs.Growth.{Addition, newId, newEvent, newOrder, grown}
-use Rattle.robustness.proofs.WellFormed.{WellFormed, well-formed-grows}
-use Rattle.robustness.proofs.Start.{start-locations, start-threads, start-well-formed, start-acyclic}
-use Rattle.robustness.proofs.Sinks.{acyclic-grows}
+use Rattle.model.proofs.Lookup.{same-threads, same-locations}
+use Rattle.model.proofs.Growth.{Addition, newEvent, newOrder, grown}
+use Rattle.model.proofs.WellFormed.{WellFormed, well-formed-grows}
+use Rattle.model.proofs.Start.{start-locations, start-threads, start-well-formed, start-acyclic}
+use Rattle.model.proofs.Sinks.{acyclic-grows}
 
 -- A thread with a next line is one of the program.
-pub past-threads-ended : (p : Program) (t : ℕ) (q : ThreadState) → (t < length (p .threads) → ⊥) → nextLine p t q ≡ ended
+pub past-threads-ended : (p : Program) (t : ℕ) (q : ThreadState) → (t < length (p .threads) → ⊥)
+    → nextLine p t q ≡ ended
 unfolding nextLine doesAt
 past-threads-ended p t q n =
     ap (λ ls. doesAt (p .values) (getElem? ls (q .line)) q) (List·getD-eq-default (p .threads) [] (omega arith))
@@ -60,7 +59,8 @@ additionOf {p} {s} {t} f a =
       hasThread = subst⁻¹ (λ n. t < n) (f .events) (has-thread p t (threadOf s t) (access-not-ended (a .line)));
     }
 
-pub graph-grown : {p : Program} {s : State} {t : ℕ} (f : Good p s) (a : Access p s t) → graphAfter a ≡ grown (additionOf f a)
+pub graph-grown : {p : Program} {s : State} {t : ℕ} (f : Good p s) (a : Access p s t)
+    → graphAfter a ≡ grown (additionOf f a)
 unfolding graphAfter
 graph-grown f a = refl
 
@@ -80,15 +80,25 @@ access-good {s = s} {t = t} f a =
     let d = additionOf f a in
     record {
       threads = length-set (s .threads) t (a .effect .after) ∙ f .threads;
-      events = ap (λ g. length (g .events)) (graph-grown f a) ∙ same-threads (s .graph) (d .thread) (newEvent d) (d .location) (newOrder d) ∙ f .events;
-      locations = ap (λ g. length (g .orders)) (graph-grown f a) ∙ same-locations (s .graph) (d .thread) (newEvent d) (d .location) (newOrder d) ∙ f .locations;
+      events =
+          ap (λ g. length (g .events)) (graph-grown f a) ∙ same-threads (s .graph) (d .thread) (newEvent d)
+          (d .location) (newOrder d) ∙ f .events;
+      locations =
+          ap (λ g. length (g .orders)) (graph-grown f a) ∙ same-locations (s .graph) (d .thread) (newEvent d)
+          (d .location) (newOrder d) ∙ f .locations;
       wellFormed = subst⁻¹ WellFormed (graph-grown f a) (well-formed-grows (f .wellFormed) d);
     }
 
 pub local-good : {p : Program} {s : State} → Good p s → (t : ℕ) (q : ThreadState) → Good p (afterLocal s t q)
 unfolding afterLocal
 local-good {s = s} f t q =
-    record { threads = length-set (s .threads) t q ∙ f .threads; events = f .events; locations = f .locations; wellFormed = f .wellFormed }
+    record {
+      threads = length-set (s .threads) t q
+          ∙ f .threads;
+      events = f .events;
+      locations = f .locations;
+      wellFormed = f .wellFormed;
+    }
 
 pub step-good : {p : Program} {rule : Rule} {t : ℕ} {s s′ : State} → Good p s → Step p rule t s s′ → Good p s′
 step-good {p} {t = t} f (localStep q l e) = subst⁻¹ (Good p) e (local-good f t q)
@@ -107,13 +117,15 @@ step-acyclic f (accessStep m r e) old a h =
     acyclic-grows (f .wellFormed) (additionOf f m) r old a
     (subst (λ g. ScOrder g a a) (graph-grown f m) (subst (λ (c : State). ScOrder (c .graph) a a) e h))
 
-pub sc-order-acyclic : {p : Program} {schedule : List ℕ} {s : State} → ScRun p schedule s → (a : Id) → ScOrder (s .graph) a a → ⊥
+pub sc-order-acyclic : {p : Program} {schedule : List ℕ} {s : State} → ScRun p schedule s → (a : Id)
+    → ScOrder (s .graph) a a → ⊥
 unfolding startState
 sc-order-acyclic {p} noStep a h = start-acyclic p a a h
 sc-order-acyclic (andStep r k) a h = step-acyclic (run-good r) k (λ b w. sc-order-acyclic r b w) a h
 
 -- "an SC step is also the release/acquire step that picks the newest write"
-pub newest-allowed : (p : Program) (g : Graph) (t : ℕ) (action : Action) (after : List Id) → after ≡ [] → Allowed p g t action after
+pub newest-allowed : (p : Program) (g : Graph) (t : ℕ) (action : Action) (after : List Id) → after ≡ []
+    → Allowed p g t action after
 unfolding startsWithUpdate
 newest-allowed p g t action after q =
     record {
@@ -131,7 +143,8 @@ sc-run-is-ra-run noStep = noStep
 sc-run-is-ra-run (andStep r k) = andStep (sc-run-is-ra-run r) (sc-step-is-ra-step k)
 
 -- Two accesses of a thread that pick the same write lead to the same state.
-pub same-pick-same-state : {p : Program} {s : State} {t : ℕ} (a b : Access p s t) → a .before ≡ b .before → a .picked ≡ b .picked
+pub same-pick-same-state : {p : Program} {s : State} {t : ℕ} (a b : Access p s t) → a .before ≡ b .before
+    → a .picked ≡ b .picked
     → a .after ≡ b .after → stateAfter a ≡ stateAfter b
 unfolding stateAfter graphAfter
 same-pick-same-state {p} {s} {t} a b qb qw qa i =
@@ -156,14 +169,17 @@ pub same-newest : {p : Program} {s : State} {t : ℕ} (a b : Access p s t) → a
     → (a .before ≡ b .before) × (a .picked ≡ b .picked)
 same-newest {s = s} a b r k =
     same-last (a .before) (b .before) (a .picked) (b .picked)
-    (sym (ap (λ l. a .before ++ a .picked ∷ l) r) ∙ sym (a .split) ∙ ap (order (s .graph)) (same-location a b) ∙ b .split
+    (sym (ap (λ l. a .before ++ a .picked ∷ l) r) ∙ sym (a .split) ∙ ap (order (s .graph)) (same-location a b)
+    ∙ b .split
     ∙ ap (λ l. b .before ++ b .picked ∷ l) k)
 
 -- "Each thread has at most one SC step in a state, local lines included."
 pub at-most-one-sc-step : {p : Program} {t : ℕ} {s s₁ s₂ : State} → ScStep p t s s₁ → ScStep p t s s₂ → s₁ ≡ s₂
 at-most-one-sc-step (localStep q l e) (localStep r m f) = let k : q ≡ r = cc in e ∙ ap (afterLocal _ _) k ∙ sym f
-at-most-one-sc-step (localStep q l e) (accessStep b r f) = absurd (let z : _≡_ {A = ℕ} 0 1 = cc (b .line) in omega arith)
-at-most-one-sc-step (accessStep a r e) (localStep q l f) = absurd (let z : _≡_ {A = ℕ} 0 1 = cc (a .line) in omega arith)
+at-most-one-sc-step (localStep q l e) (accessStep b r f) =
+    absurd (let z : _≡_ {A = ℕ} 0 1 = cc (b .line) in omega arith)
+at-most-one-sc-step (accessStep a r e) (localStep q l f) =
+    absurd (let z : _≡_ {A = ℕ} 0 1 = cc (a .line) in omega arith)
 at-most-one-sc-step (accessStep a r e) (accessStep b k f) =
     let n = same-newest a b r k in
     e ∙ same-pick-same-state a b (n .0) (n .1) (r ∙ sym k) ∙ sym f

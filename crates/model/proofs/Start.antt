@@ -1,23 +1,26 @@
 -- The graph of the starting writes alone.
 use mathlib.Core.Path.{_≡_, refl, sym, ap, _∙_, subst, subst⁻¹}
-use mathlib.Core.List.{List, [], _∷_, _++_, map, map-append, List·Memᴰ as Member, List·Memᴰ·head, List·Memᴰ·eq-of-singleton, List·Memᴰ·not-nil}
-use mathlib.Core.Option.{Option, none, some}
+use mathlib.Core.List.{List, [], _∷_, _++_, map, map-append, List·Memᴰ as Member, List·Memᴰ·head}
+use mathlib.Core.List.{List·Memᴰ·eq-of-singleton, List·Memᴰ·not-nil}
+use mathlib.Core.Option.{some}
 use mathlib.Core.Logic.{_⊎_, inl, inr, ⊎-elim}
 use Prim.Native.Nat.{ℕ, zero, suc, _<_, _≤_}
 use native.Mathlib.Omega.{arith}
 use native.Mathlib.Decide.{decLt}
-use lib.ListN.{length, getD, getElem?, length-map, List·getD-append, List·getD-eq-default}
+use lib.ListN.{length, getD, length-map, List·getD-append, List·getD-eq-default}
 use lib.Seq.{getD-at}
 use Rattle.relations.specs.Closure.{Precedes}
 use Rattle.relations.proofs.Decide.{precedes-cases, precedes-not-nil}
 use Rattle.relations.proofs.Lists.{length-of-snoc, place-in-range}
 use Rattle.model.specs.Program.{Program, Line}
-use Rattle.model.specs.Graph.{Id, start, event, Event, writeE, Graph, eventsOf, order, eventAt, below, locationOf, sourceOf, startGraph}
+use Rattle.model.specs.Graph.{Id, start, event, Event, writeE, eventsOf, order, eventAt, below, sourceOf}
+use Rattle.model.specs.Graph.{startGraph}
 use Rattle.relations.proofs.Laws.{first-edge}
-use Rattle.model.specs.Order.{ThreadOrder, starting, within, ModificationOrder, at, HappensEdge, threadOrder, readsFrom}
+use Rattle.model.specs.Order.{ThreadOrder, starting, within, ModificationOrder, at, HappensEdge, threadOrder}
+use Rattle.model.specs.Order.{readsFrom}
 use Rattle.model.specs.Order.{ScEdge, happensBefore, modificationOrder, fromRead, ScOrder}
-use Rattle.robustness.proofs.Lookup.{start-there, start-is, reading-event}
-use Rattle.robustness.proofs.WellFormed.{writesTo, WriteTo, WellFormed}
+use Rattle.model.proofs.Lookup.{start-there, start-is, reading-event}
+use Rattle.model.proofs.WellFormed.{writesTo, WriteTo, WellFormed}
 
 pub length-below : (n : ℕ) → length (below n) ≡ n
 unfolding below
@@ -56,10 +59,12 @@ module _ (p : Program) where
   no-order x h = List·getD-eq-default (startGraph p .orders) [] (omega (arith, start-locations))
 
   -- Each location has its starting write alone, and where there is no location there is nothing.
-  pub start-orders : (x : ℕ) → ((x < p .locations) × (order (startGraph p) x ≡ start x ∷ [])) ⊎ (order (startGraph p) x ≡ [])
+  pub start-orders : (x : ℕ)
+      → ((x < p .locations) × (order (startGraph p) x ≡ start x ∷ [])) ⊎ (order (startGraph p) x ≡ [])
   start-orders x = go (decLt x (p .locations))
     where
-      go : Dec (x < p .locations) → ((x < p .locations) × (order (startGraph p) x ≡ start x ∷ [])) ⊎ (order (startGraph p) x ≡ [])
+      go : Dec (x < p .locations)
+          → ((x < p .locations) × (order (startGraph p) x ≡ start x ∷ [])) ⊎ (order (startGraph p) x ≡ [])
       go (yes h) = inl (h, start-order x h)
       go (no h) = inr (no-order x (omega arith))
 
@@ -73,7 +78,8 @@ module _ (p : Program) where
   start-events t = no-rows (p .threads) t
 
   -- Every event is a starting write.
-  pub start-event-is : (a : Id) {v : Event} → eventAt (startGraph p) a ≡ some v → (y : ℕ) × (a ≡ start y) × (v ≡ writeE y 0) × (y < p .locations)
+  pub start-event-is : (a : Id) {v : Event} → eventAt (startGraph p) a ≡ some v
+      → (y : ℕ) × (a ≡ start y) × (v ≡ writeE y 0) × (y < p .locations)
   unfolding eventAt
   start-event-is (start y) h =
       let r = start-is (startGraph p) y h in
@@ -86,10 +92,15 @@ module _ (p : Program) where
   unfolding sourceOf writesTo
   start-well-formed =
       record {
-        listed-writes = λ x a m. ⊎-elim (λ o. listed x a (o .0) (subst (Member a) (o .1) m)) (λ o. absurd (List·Memᴰ·not-nil (subst (Member a) o m))) (start-orders x);
+        listed-writes =
+            λ x a m. ⊎-elim (λ o. listed x a (o .0) (subst (Member a) (o .1) m))
+            (λ o. absurd (List·Memᴰ·not-nil (subst (Member a) o m))) (start-orders x);
         writes-listed = λ x a w. let r = start-event-is a (w .there) in writes x a w (r .0) (r .1) (r .2) (r .3);
-        sources-listed = λ r w v h k. let s = start-event-is r h in absurd (let z : _≡_ {A = ℕ} 0 1 = cc (s .2) in omega arith);
-        no-repeats = λ x a h. ⊎-elim (λ o. alone x a (subst (Precedes a a) (o .1) h)) (λ o. precedes-not-nil (subst (Precedes a a) o h)) (start-orders x);
+        sources-listed =
+            λ r w v h k. let s = start-event-is r h in absurd (let z : _≡_ {A = ℕ} 0 1 = cc (s .2) in omega arith);
+        no-repeats =
+            λ x a h. ⊎-elim (λ o. alone x a (subst (Precedes a a) (o .1) h))
+            (λ o. precedes-not-nil (subst (Precedes a a) o h)) (start-orders x);
         headed = λ x h. ([], start-order x (subst (λ n. x < n) start-locations h));
       }
     where
@@ -97,11 +108,14 @@ module _ (p : Program) where
       listed x a h m =
           record {
             write = writeE x 0;
-            there = ap (eventAt (startGraph p)) (List·Memᴰ·eq-of-singleton m) ∙ start-there (startGraph p) x (subst⁻¹ (λ n. x < n) start-locations h);
+            there =
+                ap (eventAt (startGraph p)) (List·Memᴰ·eq-of-singleton m) ∙ start-there (startGraph p) x
+                (subst⁻¹ (λ n. x < n) start-locations h);
             to = refl;
           }
 
-      writes : (x : ℕ) (a : Id) (w : WriteTo (startGraph p) x a) (y : ℕ) → a ≡ start y → w .write ≡ writeE y 0 → y < p .locations
+      writes : (x : ℕ) (a : Id) (w : WriteTo (startGraph p) x a) (y : ℕ) → a ≡ start y → w .write ≡ writeE y 0
+          → y < p .locations
           → Member a (order (startGraph p) x)
       writes x a w y q e h =
           let z : y ≡ x = cc (w .to, e) in
@@ -126,7 +140,8 @@ module _ (p : Program) where
 
   no-modification-order : {a b : Id} → ModificationOrder (startGraph p) a b → ⊥
   no-modification-order {a} {b} (at x h) =
-      ⊎-elim (λ o. ⊎-elim (λ q. List·Memᴰ·not-nil (q .1)) precedes-not-nil (precedes-cases (subst (Precedes a b) (o .1) h)))
+      ⊎-elim
+      (λ o. ⊎-elim (λ q. List·Memᴰ·not-nil (q .1)) precedes-not-nil (precedes-cases (subst (Precedes a b) (o .1) h)))
       (λ o. precedes-not-nil (subst (Precedes a b) o h)) (start-orders x)
 
   no-sc-edge : (a b : Id) → ScEdge (startGraph p) a b → ⊥

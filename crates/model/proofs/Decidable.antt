@@ -1,20 +1,23 @@
 -- Happens-before and SC order are decided on every graph.
 use mathlib.Core.Path.{_≡_, refl, sym, ap, _∙_, subst, subst⁻¹}
-use mathlib.Core.List.{List, [], _∷_, _++_, map, flatten, List·Memᴰ as Member, Memᴰ·append-left, Memᴰ·append-right, Memᴰ·map}
+use mathlib.Core.List.{List, [], _++_, map, flatten, List·Memᴰ as Member, Memᴰ·append-left, Memᴰ·append-right, Memᴰ·map}
 use mathlib.Core.Option.{Option, none, some, discrete}
 use mathlib.Core.Logic.{_⊎_, inl, inr, ⊎-elim}
 use Prim.Native.Nat.{ℕ, _<_}
 use native.Mathlib.Omega.{arith}
 use native.Mathlib.Decide.{ℕ-discrete, decLt}
-use lib.ListN.{length, getD}
-use Rattle.relations.specs.Closure.{Closure, Precedes, Reaches}
+use lib.ListN.{length}
+use Rattle.relations.specs.Closure.{Precedes, Reaches}
 use Rattle.relations.proofs.Decide.{dec-map, dec-or, dec-and, dec-not, dec-some, dec-precedes, dec-closure, dec-reaches}
 use Rattle.relations.proofs.Laws.{last-edge}
-use Rattle.relations.proofs.Lists.{precedes-members, member-of-flat, member-row, place-in-range, member-in-range, filled-row-in-range}
-use Rattle.model.specs.Graph.{Id, start, event, Event, Graph, eventsOf, order, eventAt, below, threadEvents, sourceOf}
+use Rattle.relations.proofs.Lists.{precedes-members, member-of-flat, member-row, place-in-range, member-in-range}
+use Rattle.relations.proofs.Lists.{filled-row-in-range}
+use Rattle.model.specs.Graph.{Id, start, event, Event, Graph, eventsOf, order, eventAt, below, threadEvents}
+use Rattle.model.specs.Graph.{sourceOf}
 use Rattle.model.specs.Order.{ThreadOrder, starting, within, ReadsFrom, ModificationOrder, at, FromRead}
-use Rattle.model.specs.Order.{HappensEdge, threadOrder, readsFrom, HappensBefore, ScEdge, happensBefore, modificationOrder, fromRead, ScOrder}
-use Rattle.robustness.proofs.Lookup.{member-below, own-event, reading-event, start-is}
+use Rattle.model.specs.Order.{HappensEdge, threadOrder, readsFrom, HappensBefore, ScEdge, happensBefore}
+use Rattle.model.specs.Order.{modificationOrder, fromRead, ScOrder}
+use Rattle.model.proofs.Lookup.{member-below, own-event, reading-event, start-is}
 
 pub id-discrete : Discrete Id
 id-discrete (start x) (start y) = dec-map (ap start) (λ q. cc) (ℕ-discrete x y)
@@ -24,7 +27,8 @@ id-discrete (event t i) (event u j) =
     dec-map (λ q k. event (q .0 k) (q .1 k)) (λ q. ((cc), (cc))) (dec-and (ℕ-discrete t u) (ℕ-discrete i j))
 
 module _ (g : Graph) where
-  starting-is : {x t i : ℕ} → ThreadOrder g (start x) (event t i) → (x < length (g .orders)) × (i < length (eventsOf g t))
+  starting-is : {x t i : ℕ} → ThreadOrder g (start x) (event t i)
+      → (x < length (g .orders)) × (i < length (eventsOf g t))
   starting-is (starting l h) = (l, h)
 
   within-is : {t i u j : ℕ} → ThreadOrder g (event t i) (event u j) → (t ≡ u) × ((i < j) × (j < length (eventsOf g u)))
@@ -34,7 +38,8 @@ module _ (g : Graph) where
   dec-thread-order (start x) (start y) = no (λ h. elim h [ ])
   dec-thread-order (event t i) (start y) = no (λ h. elim h [ ])
   dec-thread-order (start x) (event t i) =
-      dec-map (λ h. starting (h .0) (h .1)) starting-is (dec-and (decLt x (length (g .orders))) (decLt i (length (eventsOf g t))))
+      dec-map (λ h. starting (h .0) (h .1)) starting-is
+      (dec-and (decLt x (length (g .orders))) (decLt i (length (eventsOf g t))))
   dec-thread-order (event t i) (event u j) =
       dec-map into within-is (dec-and (ℕ-discrete t u) (dec-and (decLt i j) (decLt j (length (eventsOf g u)))))
     where
@@ -43,10 +48,13 @@ module _ (g : Graph) where
 
   dec-modification-order : (a b : Id) → Dec (ModificationOrder g a b)
   dec-modification-order a b =
-      dec-map (λ h. at (h .0) (h .2)) out (dec-some {P = λ x. Precedes a b (order g x)} (λ x. dec-precedes id-discrete a b (order g x)) (below (length (g .orders))))
+      dec-map (λ h. at (h .0) (h .2)) out
+      (dec-some {P = λ x. Precedes a b (order g x)} (λ x. dec-precedes id-discrete a b (order g x))
+      (below (length (g .orders))))
     where
       out : ModificationOrder g a b → (x : ℕ) × Member x (below (length (g .orders))) × Precedes a b (order g x)
-      out (at x h) = (x, member-below (length (g .orders)) (member-in-range (g .orders) x (precedes-members (order g x) h .0)), h)
+      out (at x h) =
+          (x, member-below (length (g .orders)) (member-in-range (g .orders) x (precedes-members (order g x) h .0)), h)
 
   dec-from-read : (a b : Id) → Dec (FromRead g a b)
   dec-from-read a b = go (sourceOf (eventAt g a)) refl
@@ -96,7 +104,8 @@ module _ (g : Graph) where
 
   dec-happens-edge : (a b : Id) → Dec (HappensEdge g a b)
   dec-happens-edge a b =
-      dec-map (⊎-elim threadOrder readsFrom) happens-edge-is (dec-or (dec-thread-order a b) (discrete id-discrete (sourceOf (eventAt g b)) (some a)))
+      dec-map (⊎-elim threadOrder readsFrom) happens-edge-is
+      (dec-or (dec-thread-order a b) (discrete id-discrete (sourceOf (eventAt g b)) (some a)))
 
   pub dec-happens-before : (a b : Id) → Dec (HappensBefore g a b)
   dec-happens-before = dec-closure (HappensEdge g) dec-happens-edge vertices happens-listed

@@ -1,23 +1,26 @@
 -- A graph that grows by one access, whichever write it picks: what is kept, and what is new.
 use mathlib.Core.Path.{_≡_, refl, sym, ap, _∙_, subst, subst⁻¹}
-use mathlib.Core.Bool.{Bool, true, false}
-use mathlib.Core.List.{List, [], _∷_, _++_, List·Memᴰ as Member, List·Memᴰ·head, List·Memᴰ·tail, Memᴰ·append-left, Memᴰ·append-right}
-use mathlib.Core.Option.{Option, none, some}
-use mathlib.Core.Logic.{_⊎_, inl, inr, ⊎-elim, _≢_}
-use Prim.Native.Nat.{ℕ, suc, _<_}
+use mathlib.Core.Bool.{true, false}
+use mathlib.Core.List.{List, [], _∷_, _++_, List·Memᴰ as Member}
+use mathlib.Core.Option.{some}
+use mathlib.Core.Logic.{_⊎_, inl, inr, ⊎-elim}
+use Prim.Native.Nat.{ℕ, _<_}
 use native.Mathlib.Omega.{arith}
 use lib.ListN.{length}
-use Rattle.relations.specs.Closure.{Closure, Precedes, Reaches}
+use Rattle.relations.specs.Closure.{Precedes}
 use Rattle.relations.proofs.Laws.{closure-grows}
-use Rattle.relations.proofs.Lists.{row-in-range, regroup-after, member-inserted, member-old-or-put-in, precedes-inserted}
+use Rattle.relations.proofs.Lists.{row-in-range, regroup-after, member-inserted, member-old-or-put-in}
+use Rattle.relations.proofs.Lists.{precedes-inserted}
 use Rattle.relations.proofs.Lists.{precedes-old-or-put-in, member-put-in}
 use Rattle.model.specs.Thread.{Action, reads, writes, updates}
-use Rattle.model.specs.Graph.{Id, start, event, Event, Graph, eventsOf, order, eventAt, sourceOf, valueOf, threadEvents}
+use Rattle.model.specs.Graph.{Id, Event, Graph, eventsOf, order, eventAt, sourceOf, valueOf}
 use Rattle.model.specs.Graph.{nextId, eventOf, directlyAfter, extend}
 use Rattle.model.specs.Order.{ThreadOrder, starting, within, ReadsFrom, ModificationOrder, at, FromRead}
-use Rattle.model.specs.Order.{HappensEdge, threadOrder, readsFrom, HappensBefore, ScEdge, happensBefore, modificationOrder, fromRead, ScOrder}
+use Rattle.model.specs.Order.{HappensEdge, threadOrder, readsFrom, HappensBefore, ScEdge, happensBefore}
+use Rattle.model.specs.Order.{modificationOrder, fromRead, ScOrder}
 use Rattle.model.specs.Run.{writing}
-use Rattle.robustness.proofs.Lookup.{same-locations, more-events, event-kept, new-event, event-old-or-new, new-order, orders-after, reading-event}
+use Rattle.model.proofs.Lookup.{same-locations, more-events, event-kept, new-event, event-old-or-new}
+use Rattle.model.proofs.Lookup.{new-order, orders-after, reading-event}
 
 -- What an access adds to a graph.
 pub record Addition (g : Graph) : Type 0 where
@@ -89,17 +92,20 @@ module _ {g : Graph} (d : Addition g) where
       ∙ sym (regroup-after (d .before) (d .picked) (newId d ∷ d .after))
 
   pub order-unwritten : writing (d .action) ≡ false → newOrder d ≡ order g (d .location)
-  order-unwritten w = ap (λ l. d .before ++ d .picked ∷ l) (not-written (d .action) (newId d) (d .after) w) ∙ sym (d .split)
+  order-unwritten w =
+      ap (λ l. d .before ++ d .picked ∷ l) (not-written (d .action) (newId d) (d .after) w) ∙ sym (d .split)
 
   pub new-listed : writing (d .action) ≡ true → Member (newId d) (order (grown d) (d .location))
-  new-listed w = subst⁻¹ (Member (newId d)) (order-here ∙ order-written w) (member-put-in (upToPicked d) (newId d) (d .after))
+  new-listed w =
+      subst⁻¹ (Member (newId d)) (order-here ∙ order-written w) (member-put-in (upToPicked d) (newId d) (d .after))
 
   pub order-after : (y : ℕ) → OrderAfter d y
   order-after y =
       ⊎-elim (λ p. unchanged (p .1)) (λ p. here (p .0) (p .1) (writing-cases (d .action)))
       (orders-after g (d .thread) (newEvent d) (d .location) (newOrder d) y (hasLocation d))
     where
-      here : y ≡ d .location → order (grown d) y ≡ newOrder d → (writing (d .action) ≡ true) ⊎ (writing (d .action) ≡ false) → OrderAfter d y
+      here : y ≡ d .location → order (grown d) y ≡ newOrder d
+          → (writing (d .action) ≡ true) ⊎ (writing (d .action) ≡ false) → OrderAfter d y
       here q o (inl w) = putIn q w (ap (order g) q ∙ old-order) (o ∙ order-written w)
       here q o (inr w) = unchanged (o ∙ order-unwritten w ∙ ap (order g) (sym q))
 
@@ -108,7 +114,8 @@ module _ {g : Graph} (d : Addition g) where
     where
       go : OrderAfter d y → Member a (order (grown d) y)
       go (unchanged o) = subst⁻¹ (Member a) o m
-      go (putIn q w o n) = subst⁻¹ (Member a) n (member-inserted (upToPicked d) (newId d) (d .after) (subst (Member a) o m))
+      go (putIn q w o n) =
+          subst⁻¹ (Member a) n (member-inserted (upToPicked d) (newId d) (d .after) (subst (Member a) o m))
 
   -- An added id is the new one, at this location, by a write.
   pub member-old-or-new : {a : Id} (y : ℕ) → Member a (order (grown d) y)
@@ -126,9 +133,11 @@ module _ {g : Graph} (d : Addition g) where
     where
       go : OrderAfter d y → Precedes a b (order (grown d) y)
       go (unchanged o) = subst⁻¹ (Precedes a b) o m
-      go (putIn q w o n) = subst⁻¹ (Precedes a b) n (precedes-inserted (upToPicked d) (newId d) (d .after) (subst (Precedes a b) o m))
+      go (putIn q w o n) =
+          subst⁻¹ (Precedes a b) n (precedes-inserted (upToPicked d) (newId d) (d .after) (subst (Precedes a b) o m))
 
-  -- What stands before what anew: the new id before what stood after the picked write, and the others before the new id.
+  -- What stands before what anew: the new id before what stood after the picked write, and the others before the new
+  -- id.
   pub precedes-old-or-new : {a b : Id} (y : ℕ) → Precedes a b (order (grown d) y)
       → Precedes a b (order g y)
       ⊎ (((a ≡ newId d) × Member b (d .after)) ⊎ ((b ≡ newId d) × (y ≡ d .location) × Member a (upToPicked d)))
@@ -148,12 +157,14 @@ module _ {g : Graph} (d : Addition g) where
   pub new-there : eventAt (grown d) (newId d) ≡ some (newEvent d)
   new-there = new-event g (d .thread) (newEvent d) (d .location) (newOrder d) (d .hasThread)
 
-  pub there-old-or-new : (a : Id) {v : Event} → eventAt (grown d) a ≡ some v → ((a ≡ newId d) × (v ≡ newEvent d)) ⊎ (eventAt g a ≡ some v)
+  pub there-old-or-new : (a : Id) {v : Event} → eventAt (grown d) a ≡ some v
+      → ((a ≡ newId d) × (v ≡ newEvent d)) ⊎ (eventAt g a ≡ some v)
   there-old-or-new = event-old-or-new g (d .thread) (newEvent d) (d .location) (newOrder d) (d .hasThread)
 
   pub thread-order-grows : {a b : Id} → ThreadOrder g a b → ThreadOrder (grown d) a b
   thread-order-grows (starting {x = x} {t = t} {i = i} l h) =
-      starting (subst⁻¹ (λ n. x < n) (same-locations g (d .thread) (newEvent d) (d .location) (newOrder d)) l) (more t i h)
+      starting (subst⁻¹ (λ n. x < n) (same-locations g (d .thread) (newEvent d) (d .location) (newOrder d)) l)
+      (more t i h)
     where
       more : (t i : ℕ) → i < length (eventsOf g t) → i < length (eventsOf (grown d) t)
       more = more-events g (d .thread) (newEvent d) (d .location) (newOrder d) (d .hasThread)
@@ -168,7 +179,13 @@ module _ {g : Graph} (d : Addition g) where
 
   pub from-read-grows : {a b : Id} → FromRead g a b → FromRead (grown d) a b
   from-read-grows f =
-      record { source = f .source; read = reads-from-grows (f .source) _ (f .read); later = modification-order-grows (f .later); other = f .other }
+      record {
+        source = f .source;
+        read = reads-from-grows (f .source) _ (f .read);
+        later = modification-order-grows
+            (f .later);
+        other = f .other;
+      }
 
   pub happens-edge-grows : (a b : Id) → HappensEdge g a b → HappensEdge (grown d) a b
   happens-edge-grows a b (threadOrder h) = threadOrder (thread-order-grows h)

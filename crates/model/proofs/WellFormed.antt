@@ -1,29 +1,23 @@
 -- What holds of every graph that runs build, under either rule, and that each access keeps it.
 use mathlib.Core.Path.{_≡_, refl, sym, ap, _∙_, subst, subst⁻¹}
-use mathlib.Core.Bool.{Bool, true, false, cond}
-use mathlib.Core.List.{List, [], _∷_, _++_, map, List·Memᴰ as Member, List·Memᴰ·head, List·Memᴰ·eq-of-singleton, List·Memᴰ·not-nil}
-use mathlib.Core.List.{Memᴰ·append-left, Memᴰ·append-right, head-eq-of-cons-eq, tail-eq-of-cons-eq}
-use mathlib.Core.Option.{Option, none, some, Option·some-injective}
-use mathlib.Core.Logic.{_⊎_, inl, inr, ⊎-elim}
-use Prim.Native.Nat.{ℕ, zero, suc, _<_}
+use mathlib.Core.Bool.{true}
+use mathlib.Core.List.{List, [], _∷_, _++_, List·Memᴰ as Member}
+use mathlib.Core.List.{Memᴰ·append-left, Memᴰ·append-right, head-eq-of-cons-eq}
+use mathlib.Core.Option.{Option, none, some}
+use mathlib.Core.Logic.{⊎-elim}
+use Prim.Native.Nat.{ℕ, _<_}
 use native.Mathlib.Omega.{arith}
-use lib.Dec.{ltb}
-use lib.ListN.{length, getD, getElem?, length-map, List·getD-append, List·getD-eq-default}
-use lib.Seq.{getD-at}
-use borrow.Author.Tests.{lt-ltb, ltb-true, ltb-false}
-use native.Mathlib.Decide.{ℕ-discrete, decLt}
+use lib.ListN.{length}
 use Rattle.relations.specs.Closure.{Precedes}
-use Rattle.relations.proofs.Decide.{precedes-cases, precedes-not-nil}
-use Rattle.relations.proofs.Lists.{length-of-snoc, place-in-range, member-put-in}
-use Rattle.model.specs.Program.{Program, Line}
 use Rattle.model.specs.Thread.{Action, reads, writes, updates}
-use Rattle.model.specs.Graph.{Id, start, event, Event, readE, writeE, updateE, Graph, eventsOf, order, eventAt, below, locationOf}
-use Rattle.model.specs.Graph.{sourceOf, valueOf, startGraph, nextId, eventOf}
+use Rattle.model.specs.Graph.{Id, start, event, Event, readE, writeE, updateE, Graph, order, eventAt, locationOf}
+use Rattle.model.specs.Graph.{sourceOf, nextId, eventOf}
 use Rattle.model.specs.Run.{writing}
-use Rattle.robustness.proofs.Lookup.{same-locations, present-not-next}
-use Rattle.robustness.proofs.Growth.{Addition, in-order, hasLocation, newId, newEvent, newOrder, grown, upToPicked}
-use Rattle.robustness.proofs.Growth.{OrderAfter, unchanged, putIn, order-after, member-stays, member-old-or-new, precedes-old-or-new, event-stays}
-use Rattle.robustness.proofs.Growth.{old-order, new-listed, new-there, there-old-or-new}
+use Rattle.model.proofs.Lookup.{same-locations, present-not-next}
+use Rattle.model.proofs.Growth.{Addition, in-order, newId, newEvent, newOrder, grown, upToPicked}
+use Rattle.model.proofs.Growth.{OrderAfter, unchanged, putIn, order-after, member-stays, member-old-or-new}
+use Rattle.model.proofs.Growth.{precedes-old-or-new, event-stays}
+use Rattle.model.proofs.Growth.{old-order, new-listed, new-there, there-old-or-new}
 
 -- The location that an event writes.
 unfoldable pub writesTo : Event → Option ℕ
@@ -43,7 +37,8 @@ pub record WellFormed (g : Graph) : Type 0 where
   -- and all of them
   pub writes-listed : (x : ℕ) (a : Id) → WriteTo g x a → Member a (order g x)
   -- what is read is a write to the location
-  pub sources-listed : (r w : Id) (v : Event) → eventAt g r ≡ some v → sourceOf (some v) ≡ some w → Member w (order g (locationOf v))
+  pub sources-listed : (r w : Id) (v : Event) → eventAt g r ≡ some v → sourceOf (some v) ≡ some w
+      → Member w (order g (locationOf v))
   -- no write stands twice in an order
   pub no-repeats : (x : ℕ) (a : Id) → Precedes a a (order g x) → ⊥
   -- each order starts with the starting write
@@ -60,7 +55,8 @@ new-write-to reads x u w h = absurd (let z : _≡_ {A = ℕ} 0 1 = cc in omega a
 new-write-to (writes v) x u w h = refl
 new-write-to (updates v) x u w h = refl
 
-pub new-writes : (a : Action) (x u : ℕ) (w : Id) {y : ℕ} → writesTo (eventOf a x u w) ≡ some y → (writing a ≡ true) × (y ≡ x)
+pub new-writes : (a : Action) (x u : ℕ) (w : Id) {y : ℕ} → writesTo (eventOf a x u w) ≡ some y
+    → (writing a ≡ true) × (y ≡ x)
 unfolding writing writesTo eventOf
 new-writes reads x u w h = absurd (let z : _≡_ {A = ℕ} 0 1 = cc in omega arith)
 new-writes (writes v) x u w h = (refl, cc)
@@ -125,12 +121,14 @@ module _ {g : Graph} (f : WellFormed g) (d : Addition g) where
           member-stays d (locationOf v)
           (subst⁻¹ (λ a. Member a (order g (locationOf v)))
           (new-source (d .action) (d .location) _ (d .picked) (ap (λ e. sourceOf (some e)) (sym (n .1)) ∙ k))
-          (subst⁻¹ (λ y. Member (d .picked) (order g y)) (ap locationOf (n .1) ∙ new-location (d .action) (d .location) _ (d .picked)) (in-order d)))
+          (subst⁻¹ (λ y. Member (d .picked) (order g y))
+          (ap locationOf (n .1) ∙ new-location (d .action) (d .location) _ (d .picked)) (in-order d)))
 
   no-repeats-kept : (x : ℕ) (a : Id) → Precedes a a (order (grown d) x) → ⊥
   no-repeats-kept x a h =
       ⊎-elim (f .no-repeats x a)
-      (⊎-elim (λ n. new (Memᴰ·append-right (upToPicked d) (n .1)) (n .0)) (λ n. new (Memᴰ·append-left (d .after) (n .2)) (n .0)))
+      (⊎-elim (λ n. new (Memᴰ·append-right (upToPicked d) (n .1)) (n .0))
+      (λ n. new (Memᴰ·append-left (d .after) (n .2)) (n .0)))
       (precedes-old-or-new d x h)
     where
       new : Member a (upToPicked d ++ d .after) → a ≡ newId d → ⊥
@@ -145,7 +143,8 @@ module _ {g : Graph} (f : WellFormed g) (d : Addition g) where
       go : OrderAfter d x → (rest : List Id) × (order (grown d) x ≡ start x ∷ rest)
       go (unchanged o) = (was .0, o ∙ was .1)
       go (putIn q w o n) =
-          let r = same-head (d .before) (d .picked) (d .after) (newId d ∷ d .after) (start x) (was .0) (sym o ∙ was .1) in
+          let r = same-head (d .before) (d .picked) (d .after) (newId d ∷ d .after) (start x) (was .0)
+          (sym o ∙ was .1) in
           (r .0, n ∙ r .1)
 
   pub well-formed-grows : WellFormed (grown d)
