@@ -182,8 +182,7 @@ module _ {g : Graph} (d : Addition g) where
       record {
         source = f .source;
         read = reads-from-grows (f .source) _ (f .read);
-        later = modification-order-grows
-            (f .later);
+        later = modification-order-grows (f .later);
         other = f .other;
       }
 

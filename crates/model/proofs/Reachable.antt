@@ -93,8 +93,7 @@ pub local-good : {p : Program} {s : State} → Good p s → (t : ℕ) (q : Threa
 unfolding afterLocal
 local-good {s = s} f t q =
     record {
-      threads = length-set (s .threads) t q
-          ∙ f .threads;
+      threads = length-set (s .threads) t q ∙ f .threads;
       events = f .events;
       locations = f .locations;
       wellFormed = f .wellFormed;

@@ -1,7 +1,6 @@
 -- Execution graphs: document 01, section "Graphs". Two graphs "are the same when they have the same events, each with
--- the same kind,
--- location, value read and value written, the same reads-from and the same modification orders": here that is plain
--- equality.
+-- the same kind, location, value read and value written, the same reads-from and the same modification orders": here
+-- that is plain equality.
 use Prim.Native.Nat.{ℕ, zero, suc}
 use mathlib.Core.Bool.{Bool, true, false, cond}
 use mathlib.Core.List.{List, [], _∷_, _++_, map}
@@ -11,23 +10,21 @@ use lib.ListN.{length, getD, getElem?, set}
 use Rattle.model.specs.Program.{Program, Line}
 use Rattle.model.specs.Thread.{Action, reads, writes, updates}
 
--- "An event is known by its thread and its place in that thread's order, a starting write by its location."
--- Threads and places are counted from 0.
+-- "An event is known by its thread and its place in that thread's order, a starting write by its location." Threads
+-- and places are counted from 0.
 pub data Id : Type 0 where
   start : (location : ℕ) → Id
   event : (thread place : ℕ) → Id
 
 -- "each thread's reads, writes and read-modify-writes": each with its location, the value read and the write that it
--- reads from, and
--- the value written.
+-- reads from, and the value written.
 pub data Event : Type 0 where
   readE : (location found : ℕ) (source : Id) → Event
   writeE : (location value : ℕ) → Event
   updateE : (location found value : ℕ) (source : Id) → Event
 
 -- The events of each thread in order, and the modification order of each location, oldest first. The starting writes
--- are those of the
--- locations that have an order.
+-- are those of the locations that have an order.
 pub record Graph : Type 0 where
   pub events : List (List Event)
   pub orders : List (List Id)
@@ -91,8 +88,7 @@ unfoldable pub startGraph : Program → Graph
 startGraph p =
     record {
       events = map (λ (ls : List Line). []) (p .threads);
-      orders = map (λ x. start x ∷ [])
-          (below (p .locations));
+      orders = map (λ x. start x ∷ []) (below (p .locations));
     }
 
 -- The id of the next event of thread t.
@@ -100,8 +96,7 @@ abbrev pub nextId : Graph → ℕ → Id
 nextId g t = event t (length (eventsOf g t))
 
 -- The event of an access at x that picks a write w of value u: "a read reads w, a write goes directly after w, a
--- read-modify-write does
--- both".
+-- read-modify-write does both".
 unfoldable pub eventOf : Action → (x u : ℕ) → Id → Event
 eventOf reads x u w = readE x u w
 eventOf (writes v) x u w = writeE x v

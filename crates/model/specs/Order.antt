@@ -26,6 +26,7 @@ pub record FromRead (g : Graph) (r b : Id) : Type 0 where
   pub later : ModificationOrder g source b
   pub other : r ≡ b → ⊥
 
+-- Thread order and reads-from.
 pub data HappensEdge (g : Graph) (a b : Id) : Type 0 where
   threadOrder : ThreadOrder g a b → HappensEdge g a b
   readsFrom : ReadsFrom g a b → HappensEdge g a b
@@ -34,6 +35,7 @@ pub data HappensEdge (g : Graph) (a b : Id) : Type 0 where
 abbrev pub HappensBefore : Graph → Relation Id
 HappensBefore g = Closure (HappensEdge g)
 
+-- Happens-before, modification order and from-read.
 pub data ScEdge (g : Graph) (a b : Id) : Type 0 where
   happensBefore : HappensBefore g a b → ScEdge g a b
   modificationOrder : ModificationOrder g a b → ScEdge g a b

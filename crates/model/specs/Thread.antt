@@ -63,8 +63,7 @@ pub data NextLine : Type 0 where
   -- "Ops 1 to 4 change that thread's state only": the thread state after it.
   local : (after : ThreadState) → NextLine
   -- "Any other line makes one access": its location, and what it does by the value of the write w that it picks; none
-  -- where the line
-  -- has no step with such a w.
+  -- where the line has no step with such a w.
   access : (location : ℕ) (effect : ℕ → Option Effect) → NextLine
 
 -- The line of each op, in a program with K values. "Operands are evaluated before reg changes."

@@ -15,10 +15,8 @@ pub record Stale {p : Program} {s : State} {t : ℕ} (a : Access p s t) : Type 0
   pub last : a .after ≡ between ++ newest ∷ []
 
 -- "A **witness** in a state reached by SC steps: the thread's next line allows an access, release/acquire allows it
--- with a w other than
--- the newest, and the newest write comes before some event of that thread in SC order". A witness has its thread t,
--- its kind, its
--- location x and the stale value u, the value of w.
+-- with a w other than the newest, and the newest write comes before some event of that thread in SC order". A witness
+-- has its thread t, its kind, its location x and the stale value u, the value of w.
 pub record Witness (p : Program) (s : State) (t : ℕ) (kind : Kind) (x u : ℕ) : Type 0 where
   pub access : Access p s t
   pub allowed : Allowed p (s .graph) t (access .effect .action) (access .after)
@@ -44,10 +42,8 @@ abbrev pub BeyondSc : Program → Graph → Type 0
 BeyondSc p g = (schedule : List ℕ) (s : State) → ScRun p schedule s → s .graph ≡ g → ⊥
 
 -- Not robust, as a report names it: an SC run by the schedule reaches a state with a witness of these four; that run
--- and then the
--- access of the witness is a release/acquire run; and whichever stale write of value u the thread's next line picks,
--- no SC run builds
--- the graph after it.
+-- and then the access of the witness is a release/acquire run; and whichever stale write of value u the thread's next
+-- line picks, no SC run builds the graph after it.
 pub record NotRobust (p : Program) (schedule : List ℕ) (t : ℕ) (kind : Kind) (x u : ℕ) : Type 0 where
   pub state : State
   pub run : ScRun p schedule state

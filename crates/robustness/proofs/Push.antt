@@ -1,6 +1,5 @@
 -- An access of t with a write that is not the newest is possible before an SC step of another thread, and that step
--- after it gives the same
--- state.
+-- after it gives the same state.
 use mathlib.Core.Path.{_≡_, refl, sym, ap, _∙_, subst⁻¹}
 use mathlib.Core.Bool.{true, false}
 use mathlib.Core.List.{List, [], _∷_, _++_, append-nil, List·Memᴰ as Member, List·Memᴰ·head, List·Memᴰ·tail}

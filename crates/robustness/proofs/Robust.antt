@@ -18,8 +18,7 @@ use Rattle.robustness.proofs.Rotate.{Steps, none, more, steps-good, run
 use Rattle.robustness.proofs.Push.{Pushed, push}
 
 -- An SC run of one step more to the state after the access a; and the SC-reachable state at which that access was
--- made with a newest write
--- of the same value.
+-- made with a newest write of the same value.
 pub record Claimed (p : Program) (n : ℕ) (s : State) (t : ℕ) (a : Access p s t) : Type 0 where
   pub steps : Steps p (suc n) (stateAfter a)
   pub origin : State

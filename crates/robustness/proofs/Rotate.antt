@@ -129,8 +129,7 @@ rotate-step {p} {n} {s} {s″} {t} {v} r k unseen h =
       fewer = suc (h .fewer);
       count = ap suc (h .count);
       before = w .middle;
-      steps = more (h .steps)
-          (w .first);
+      steps = more (h .steps) (w .first);
       thread = h .thread;
       step = w .then;
       seen = seen;

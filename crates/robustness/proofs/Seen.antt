@@ -42,8 +42,7 @@ module _ {g : Graph} (d : Addition g) where
       record {
         target = h .target;
         listed = own-event-stays u (h .listed);
-        way = ⊎-elim inl
-            (λ w. inr (sc-order-grows d w)) (h .way);
+        way = ⊎-elim inl (λ w. inr (sc-order-grows d w)) (h .way);
       }
 
   pub happens-seen-grows : (u : ℕ) {v : Id} → Reaches (HappensBefore g) (threadEvents g u) v
@@ -52,8 +51,7 @@ module _ {g : Graph} (d : Addition g) where
       record {
         target = h .target;
         listed = own-event-stays u (h .listed);
-        way = ⊎-elim inl
-            (λ w. inr (happens-before-grows d w)) (h .way);
+        way = ⊎-elim inl (λ w. inr (happens-before-grows d w)) (h .way);
       }
 
   pub new-is-seen : Seen (grown d) (d .thread) (newId d)

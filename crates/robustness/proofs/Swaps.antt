@@ -1,6 +1,5 @@
 -- When an SC access and a later access of another thread change places: at different locations always; at one
--- location where the SC access
--- still meets the write that it picked, or is a plain write.
+-- location where the SC access still meets the write that it picked, or is a plain write.
 use mathlib.Core.Path.{_≡_, refl, sym, ap, _∙_, subst⁻¹}
 use mathlib.Core.Bool.{false}
 use mathlib.Core.List.{List, [], _∷_, _++_, append-nil, append-assoc, List·Memᴰ as Member}
