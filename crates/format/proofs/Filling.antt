@@ -1,0 +1,182 @@
+-- The turns of the loop over the threads: the header is filled in as the threads are read.
+use Prim.Native.Nat.{ℕ, zero, suc, _+_, _-_, _*_, _≤_, _<_}
+use native.Mathlib.Omega.{arith}
+use native.Mathlib.Numerals.{add-one}
+use mathlib.Core.Path.{_≡_, refl, ap, sym, subst, _∙_}
+use mathlib.Core.Bool.{Bool, true, false}
+use mathlib.Core.List.{List, [], _∷_, map}
+use lib.ListN.{length, drop, set, length-drop}
+use lib.Seq.{sets, drop-drop}
+use lib.Dec.{eqb}
+use borrow.Author.Tests.{eq-eqb, ne-eqb}
+use Rattle.model.specs.Program.{Line, Program}
+use Rattle.program_bytes.specs.Outcome.{Outcome, check, andThen}
+use Rattle.program_bytes.specs.Outcome.Outcome.{refused, accepted}
+use Rattle.program_bytes.specs.Format.{sizePR, sizeTH, sizeIN, readThread, readThreads, endsAfter}
+use Rattle.program_bytes.specs.Layout.{startsFrom, threadSize}
+use Rattle.format.specs.Answer.{noHeader, refusal, reading, headerOf, threadOf}
+use Rattle.format.specs.declared.Check.the-variants.{Passed}
+use Rattle.format.specs.declared.Header.{Header}
+use Rattle.format.specs.declared.Reading.{Reading}
+use Rattle.format.specs.declared.threads.Thread.the-variants.{Lines, Faulty}
+use Rattle.program_bytes.proofs.OutcomeLaws.{andThen-goes-on, andThen-stops}
+use Rattle.program_bytes.proofs.AcceptedThreads.{thread-read, threads-read}
+
+-- A header with thread i's lines filled in.
+abbrev pub withThread : Header → (i start count : ℕ) → Header
+withThread h i start count =
+    record {
+      threads = h .threads;
+      locations = h .locations;
+      values = h .values;
+      starts = set (h .starts) i start;
+      counts = set (h .counts) i count;
+    }
+
+-- The answer once the rest of the threads, from thread i and byte next on, has been read into a header.
+unfoldable pub filled : Header → (i next : ℕ) → Outcome Program → Reading
+filled h i next (refused number) = refusal number
+filled h i next (accepted p) =
+    record {
+      check = Passed;
+      header =
+          record {
+            threads = h .threads;
+            locations = h .locations;
+            values = h .values;
+            starts = sets (h .starts) i (startsFrom next (p .threads));
+            counts = sets (h .counts) i (map length (p .threads));
+          };
+    }
+
+-- The rest of an input: so many threads, and the end.
+abbrev pub restOf : (L K left : ℕ) → List ℕ → Outcome Program
+restOf L K left bytes = andThen (readThreads L K left bytes) (endsAfter L K)
+
+-- The header that the loop starts from.
+abbrev pub emptyHeader : (T L K : ℕ) → Header
+emptyHeader T L K =
+    record { threads = T; locations = L; values = K; starts = noHeader .starts; counts = noHeader .counts }
+
+-- What a thread's reading was, from what the code finds of it.
+thread-refused : (o : Outcome (List Line × List ℕ)) {k : ℕ} → threadOf o ≡ Faulty k → o ≡ refused k
+unfolding threadOf
+thread-refused (refused j) {k} e = ap refused (let i : j ≡ k = cc in i)
+thread-refused (accepted got) e = absurd (let z : _≡_ {A = ℕ} 0 1 = cc in omega arith)
+
+thread-accepted : (o : Outcome (List Line × List ℕ)) {n : ℕ} → threadOf o ≡ Lines n
+    → (got : List Line × List ℕ) × (o ≡ accepted got) × (length (got .0) ≡ n)
+unfolding threadOf
+thread-accepted (refused j) e = absurd (let z : _≡_ {A = ℕ} 0 1 = cc in omega arith)
+thread-accepted (accepted got) {n} e = (got, refl, (let i : length (got .0) ≡ n = cc in i))
+
+-- One thread more at the front of a rest.
+filled-cons : (L K : ℕ) (h : Header) (i next : ℕ) (lines : List Line) (o : Outcome (List (List Line) × List ℕ))
+    → filled h i next
+    (andThen (andThen o (λ others. accepted (lines ∷ others .0, others .1))) (endsAfter L K))
+    ≡ filled (withThread h i (next + sizeTH) (length lines)) (i + 1) (next + threadSize lines) (andThen o (endsAfter L K))
+unfolding filled andThen endsAfter check startsFrom
+filled-cons L K h i next lines (refused k) = refl
+filled-cons L K h i next lines (accepted others) = ends-or-not (eqb (length (others .1)) 0)
+  where
+    ends-or-not : (b : Bool)
+        → filled h i next (check 9 b (accepted (record { threads = lines ∷ others .0; locations = L; values = K })))
+        ≡ filled (withThread h i (next + sizeTH) (length lines)) (i + 1) (next + threadSize lines)
+        (check 9 b (accepted (record { threads = others .0; locations = L; values = K })))
+    ends-or-not true = rw add-one
+    ends-or-not false = refl
+
+module _ (L K : ℕ) (bytes : List ℕ) where
+  -- A thread that fails ends the reading.
+  thread-fails : (left : ℕ) → 0 < left → {k : ℕ} (h : Header) (i next : ℕ) → threadOf (readThread L K bytes) ≡ Faulty k
+      → filled h i next (restOf L K left bytes) ≡ refusal k
+  unfolding filled readThreads andThen
+  thread-fails zero some h i next e = absurd (omega arith)
+  thread-fails (suc left) some h i next e = rw (thread-refused (readThread L K bytes) e)
+
+  -- A thread that is read leaves one fewer.
+  thread-passes : (left : ℕ) → 0 < left → {n : ℕ} (h : Header) (i next : ℕ) → threadOf (readThread L K bytes) ≡ Lines n
+      → (sizeTH + n * sizeIN ≤ length bytes)
+      × (filled h i next (restOf L K left bytes)
+      ≡ filled (withThread h i (next + sizeTH) n) (i + 1) (next + (sizeTH + n * sizeIN))
+      (restOf L K (left - 1) (drop (sizeTH + n * sizeIN) bytes)))
+  unfolding readThreads
+  thread-passes zero some h i next e = absurd (omega arith)
+  thread-passes (suc left) some {n} h i next e =
+      let (got, read, counted) = thread-accepted (readThread L K bytes) e in
+      let now = thread-read L K bytes read in
+      let one : left ≡ suc left - 1 = omega arith in
+      let o = readThreads L K left (got .1) in (
+        subst (λ (m : ℕ). sizeTH + m * sizeIN ≤ length bytes) counted (now .whole),
+        ap (λ (r : Outcome (List (List Line) × List ℕ)). filled h i next (andThen r (endsAfter L K)))
+            (andThen-goes-on (readThread L K bytes) _ read)
+            ∙ filled-cons L K h i next (got .0) o
+            ∙ ap (λ (b : List ℕ). filled (withThread h i (next + sizeTH) (length (got .0))) (i + 1) (next + threadSize (got .0))
+            (restOf L K left b)) (now .after)
+            ∙ ap (λ (m : ℕ). filled (withThread h i (next + sizeTH) m) (i + 1) (next + (sizeTH + m * sizeIN))
+            (restOf L K left (drop (sizeTH + m * sizeIN) bytes))) counted
+            ∙ ap (λ (c : ℕ). filled (withThread h i (next + sizeTH) n) (i + 1) (next + (sizeTH + n * sizeIN))
+            (restOf L K c (drop (sizeTH + n * sizeIN) bytes))) one,
+      )
+
+-- Behind the last thread the input ends, or check 9 fails.
+ends : (L K : ℕ) (bytes : List ℕ) (h : Header) (i next : ℕ) → length bytes ≡ 0
+    → filled h i next (restOf L K 0 bytes) ≡ record { check = Passed; header = h }
+unfolding filled readThreads andThen endsAfter check startsFrom
+ends L K bytes h i next e = rw (eq-eqb (length bytes) 0 e)
+
+goes-on : (L K : ℕ) (bytes : List ℕ) (h : Header) (i next : ℕ) → 0 < length bytes
+    → filled h i next (restOf L K 0 bytes) ≡ refusal 9
+unfolding filled readThreads andThen endsAfter check
+goes-on L K bytes h i next e = rw (ne-eqb (length bytes) 0 (λ z. omega arith))
+
+-- Filled from the start it is the answer.
+filled-is-reading : (T L K : ℕ) (bytes : List ℕ)
+    → filled (emptyHeader T L K) 0 sizePR (restOf L K T bytes) ≡ reading (restOf L K T bytes)
+unfolding filled andThen endsAfter check reading headerOf noHeader
+filled-is-reading T L K bytes = go (readThreads L K T bytes) refl
+  where
+    go : (o : Outcome (List (List Line) × List ℕ)) → readThreads L K T bytes ≡ o
+        → filled (emptyHeader T L K) 0 sizePR (andThen o (endsAfter L K)) ≡ reading (andThen o (endsAfter L K))
+    go (refused k) e = refl
+    go (accepted got) e = ends-or-not (eqb (length (got .1)) 0)
+      where
+        ends-or-not : (b : Bool)
+            → filled (emptyHeader T L K) 0 sizePR (check 9 b (accepted (record { threads = got .0; locations = L; values = K })))
+            ≡ reading (check 9 b (accepted (record { threads = got .0; locations = L; values = K })))
+        ends-or-not true = rw (sym (threads-read L K T bytes e .counted))
+        ends-or-not false = refl
+
+-- The loop's invariant in its place: after i of T threads, at byte next, what is left comes to the answer `whole`.
+abbrev pub Ahead : (L K T : ℕ) → List ℕ → Header → (i next : ℕ) → Reading → Type 0
+Ahead L K T bytes h i next whole = filled h i next (restOf L K (T - i) (drop next bytes)) ≡ whole
+
+module _ (L K T : ℕ) (bytes : List ℕ) (h : Header) (i next : ℕ) (whole : Reading) (ahead : Ahead L K T bytes h i next whole) where
+  pub turn-fails : i < T → {k : ℕ} → threadOf (readThread L K (drop next bytes)) ≡ Faulty k → refusal k ≡ whole
+  turn-fails more e = sym (thread-fails L K (drop next bytes) (T - i) (omega arith) h i next e) ∙ ahead
+
+  pub turn-passes : i < T → next ≤ length bytes → {n : ℕ} → threadOf (readThread L K (drop next bytes)) ≡ Lines n
+      → (next + sizeTH + n * sizeIN ≤ length bytes)
+      × Ahead L K T bytes (withThread h i (next + sizeTH) n) (i + 1) (next + sizeTH + n * sizeIN) whole
+  turn-passes more inside {n} e =
+      let p = thread-passes L K (drop next bytes) (T - i) (omega arith) h i next e in
+      let here : next + sizeTH + n * sizeIN ≡ next + (sizeTH + n * sizeIN) = omega arith in
+      let one : T - (i + 1) ≡ T - i - 1 = omega arith in (
+        omega (arith, p .0, length-drop next bytes),
+        rw (here, one, ← drop-drop (sizeTH + n * sizeIN) next bytes) (sym (p .1) ∙ ahead),
+      )
+
+  all-read : i ≡ T → filled h i next (restOf L K 0 (drop next bytes)) ≡ whole
+  all-read e = let none : 0 ≡ T - i = omega arith in rw none ahead
+
+  pub input-ends : i ≡ T → length bytes ≤ next → record { check = Passed; header = h } ≡ whole
+  input-ends e end = sym (ends L K (drop next bytes) h i next (omega (arith, length-drop next bytes))) ∙ all-read e
+
+  pub input-goes-on : i ≡ T → next < length bytes → refusal 9 ≡ whole
+  input-goes-on e more = sym (goes-on L K (drop next bytes) h i next (omega (arith, length-drop next bytes))) ∙ all-read e
+
+-- Where the loop begins.
+pub begins : (T L K : ℕ) (bytes : List ℕ) (h : Header) → h ≡ emptyHeader T L K
+    → Ahead L K T bytes h 0 sizePR (reading (restOf L K T (drop sizePR bytes)))
+begins T L K bytes h e =
+    let none : T - 0 ≡ T = omega arith in rw (e, none) (filled-is-reading T L K (drop sizePR bytes))

@@ -1,0 +1,186 @@
+// Checks of one record: the marks, and the fields of a line.
+use crate::Check;
+ghost use mathlib.Core.Path.{_≡_};
+ghost use Prim.Native.Nat.{_+_, _≤_};
+ghost use lib.ListN.{length, drop};
+ghost use Rattle.program_bytes.specs.Ops.{isOp, opAt};
+ghost use Rattle.program_bytes.specs.Format.{startsWith, isRecord, isOperand, whenUsed, zeroUnlessUsed, usesTarget, isTarget, isRegAndRest, areOperands, fieldsToLine};
+ghost use Rattle.format.specs.Answer.{makeRow, rowOf, targetMeans, checkOf};
+
+// The fields of a line's record, as they stand in the bytes.
+pub struct Fields {
+    pub op: u8,
+    pub reg: u8,
+    pub target: u8,
+    pub a: u8,
+    pub b: u8,
+}
+
+pub enum Target {
+    NoTarget,
+    ToLocation,
+    ToLine,
+}
+
+// Which fields an op uses.
+pub struct Row {
+    pub reg: bool,
+    pub target: Target,
+    pub a: bool,
+    pub b: bool,
+}
+
+// The bytes at the cursor are the mark.
+fn is_marked(bytes: &[u8], at: usize, mark: &[u8]) -> bool
+    requires { ⌜ (at + 2 ≤ length (now bytes)) × (length (now mark) ≡ 2) ⌝ }
+    ensures { λ r. ⌜ r ≡ startsWith (now (mark .entry)) (drop at (now (bytes .entry))) ⌝ }
+{
+    if bytes[at] != mark[0] {
+        return false;
+    }
+    bytes[at + 1] == mark[1]
+}
+
+// The record that is due stands at the cursor, whole and with its mark.
+pub fn is_record(bytes: &[u8], at: usize, mark: &[u8], size: usize) -> bool
+    requires { ⌜ (at ≤ length (now bytes)) × (2 ≤ size) × (length (now mark) ≡ 2) ⌝ }
+    ensures { λ r. ⌜ r ≡ isRecord (now (mark .entry)) size (drop at (now (bytes .entry))) ⌝ }
+{
+    if bytes.len() - at < size {
+        return false;
+    }
+    is_marked(bytes, at, mark)
+}
+
+fn is_op(op: u8) -> bool
+    ensures { λ r. ⌜ r ≡ isOp op ⌝ }
+{
+    if op < 1 {
+        return false;
+    }
+    op <= 10
+}
+
+fn uses(reg: bool, target: Target, a: bool, b: bool) -> Row
+    ensures { λ r. ⌜ r ≡ makeRow reg target a b ⌝ }
+{
+    Row { reg, target, a, b }
+}
+
+// The op table: the fields that each op uses, reg, target, A and B. What is no op gets the first row.
+fn row_of(op: u8) -> Row
+    ensures { λ r. ⌜ r ≡ rowOf (opAt op) ⌝ }
+{
+    match op {
+        2 => uses(true, Target::NoTarget, true, true),
+        3 => uses(true, Target::NoTarget, true, true),
+        4 => uses(false, Target::ToLine, true, false),
+        5 => uses(false, Target::ToLocation, true, false),
+        6 => uses(true, Target::ToLocation, false, false),
+        7 => uses(true, Target::ToLocation, true, false),
+        8 => uses(true, Target::ToLocation, true, true),
+        9 => uses(false, Target::ToLocation, true, false),
+        10 => uses(false, Target::ToLocation, true, true),
+        _ => uses(true, Target::NoTarget, true, true),
+    }
+}
+
+fn when_used(used: bool, test: bool) -> bool
+    ensures { λ r. ⌜ r ≡ whenUsed used test ⌝ }
+{
+    if used { test } else { true }
+}
+
+fn zero_unless_used(used: bool, x: u8) -> bool
+    ensures { λ r. ⌜ r ≡ zeroUnlessUsed used x ⌝ }
+{
+    if used { true } else { x == 0 }
+}
+
+fn uses_target(target: Target) -> bool
+    ensures { λ r. ⌜ r ≡ usesTarget (targetMeans target) ⌝ }
+{
+    match target {
+        Target::NoTarget => false,
+        Target::ToLocation => true,
+        Target::ToLine => true,
+    }
+}
+
+// Check 6, of the fields of a line and its op's row.
+fn is_reg_and_rest(r: Row, f: Fields) -> bool
+    requires { ⌜ r ≡ rowOf (opAt (f .op)) ⌝ }
+    ensures { λ is. ⌜ is ≡ isRegAndRest (opAt (f .op)) (f .reg) (f .target) (f .a) (f .b) ⌝ }
+{
+    let target = r.target;
+    if !when_used(r.reg, f.reg < 4) {
+        return false;
+    }
+    if !zero_unless_used(r.reg, f.reg) {
+        return false;
+    }
+    if !zero_unless_used(uses_target(target), f.target) {
+        return false;
+    }
+    if !zero_unless_used(r.a, f.a) {
+        return false;
+    }
+    zero_unless_used(r.b, f.b)
+}
+
+// Check 7, among l locations, in a thread of n lines.
+fn is_target(target: Target, l: u8, n: u8, x: u8) -> bool
+    ensures { λ r. ⌜ r ≡ isTarget (targetMeans target) l n x ⌝ }
+{
+    match target {
+        Target::NoTarget => true,
+        Target::ToLocation => x < l,
+        Target::ToLine => x <= n,
+    }
+}
+
+// An operand among k values.
+fn is_operand(k: u8, x: u8) -> bool
+    ensures { λ r. ⌜ r ≡ isOperand k x ⌝ }
+{
+    if x < k {
+        return true;
+    }
+    if x < 128 {
+        return false;
+    }
+    x < 132
+}
+
+// Check 8.
+fn are_operands(r: Row, f: Fields, k: u8) -> bool
+    requires { ⌜ r ≡ rowOf (opAt (f .op)) ⌝ }
+    ensures { λ are. ⌜ are ≡ areOperands (opAt (f .op)) k (f .a) (f .b) ⌝ }
+{
+    if !when_used(r.a, is_operand(k, f.a)) {
+        return false;
+    }
+    when_used(r.b, is_operand(k, f.b))
+}
+
+// Checks 5 to 8 of the fields of a line.
+pub fn check_fields(f: Fields, l: u8, k: u8, n: u8) -> Check
+    ensures { λ r. ⌜ r ≡ checkOf (fieldsToLine l k n (f .op) (f .reg) (f .target) (f .a) (f .b)) ⌝ }
+{
+    let op = f.op;
+    if !is_op(op) {
+        return Check::Failed(5);
+    }
+    let r = row_of(op);
+    if !is_reg_and_rest(r, f) {
+        return Check::Failed(6);
+    }
+    let target = r.target;
+    if !is_target(target, l, n, f.target) {
+        return Check::Failed(7);
+    }
+    if !are_operands(r, f, k) {
+        return Check::Failed(8);
+    }
+    Check::Passed
+}

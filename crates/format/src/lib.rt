@@ -1,0 +1,164 @@
+// The program bytes of document 01: the reader, and the line at a place of an accepted input.
+// The meaning is specs/Format.antt; each contract is an equation with it.
+mod checks;
+mod lines;
+mod threads;
+
+use checks::is_record;
+use lines::decode;
+use lines::fields_at;
+use threads::read_threads;
+ghost use mathlib.Core.Path.{_≡_};
+ghost use Prim.Native.Nat.{_<_};
+ghost use lib.ListN.{length, getD};
+ghost use Rattle.model.specs.Program.{Line as ModelLine, linesOf};
+ghost use Rattle.program_bytes.specs.Format.{areInRange, readProgram, programOf};
+ghost use Rattle.format.specs.Answer.{noHeader, refusal, reading, Accepted, lineMeans};
+
+// What a check says: passed, or the number of the check that failed.
+pub enum Check {
+    Passed,
+    Failed(u8),
+}
+
+// An accepted input: T, L, K, and for each thread the byte at which its lines start and how many there are, 0 past the last thread.
+pub struct Header {
+    pub threads: usize,
+    pub locations: usize,
+    pub values: usize,
+    pub starts: [usize; limits::THREADS],
+    pub counts: [usize; limits::THREADS],
+}
+
+// The answer of the reader: the header counts where the check passed, and is all 0 where it failed.
+pub struct Reading {
+    pub check: Check,
+    pub header: Header,
+}
+
+pub enum Operand {
+    Constant(usize),
+    Register(usize),
+}
+
+// A line, with the fields that it uses.
+pub enum Line {
+    Sum {
+        reg: usize,
+        a: Operand,
+        b: Operand,
+    },
+    Equal {
+        reg: usize,
+        a: Operand,
+        b: Operand,
+    },
+    Less {
+        reg: usize,
+        a: Operand,
+        b: Operand,
+    },
+    Jump {
+        target: usize,
+        a: Operand,
+    },
+    Write {
+        location: usize,
+        a: Operand,
+    },
+    Read {
+        reg: usize,
+        location: usize,
+    },
+    Fadd {
+        reg: usize,
+        location: usize,
+        a: Operand,
+    },
+    Cas {
+        reg: usize,
+        location: usize,
+        a: Operand,
+        b: Operand,
+    },
+    Wait {
+        location: usize,
+        a: Operand,
+    },
+    Bcas {
+        location: usize,
+        a: Operand,
+        b: Operand,
+    },
+}
+
+// The header of no program.
+fn no_header() -> Header
+    ensures { λ r. ⌜ r ≡ noHeader ⌝ }
+{
+    Header {
+        threads: 0,
+        locations: 0,
+        values: 0,
+        starts: [0; limits::THREADS],
+        counts: [0; limits::THREADS],
+    }
+}
+
+fn refused(number: u8) -> Reading
+    ensures { λ r. ⌜ r ≡ refusal number ⌝ }
+{
+    Reading {
+        check: Check::Failed(number),
+        header: no_header(),
+    }
+}
+
+// Check 2.
+fn are_in_range(t: u8, l: u8, k: u8) -> bool
+    ensures { λ r. ⌜ r ≡ areInRange t l k ⌝ }
+{
+    if t < 1 {
+        return false;
+    }
+    if 8 < t {
+        return false;
+    }
+    if l < 1 {
+        return false;
+    }
+    if 8 < l {
+        return false;
+    }
+    if k < 2 {
+        return false;
+    }
+    k <= 16
+}
+
+// Reads any input: the first failed check, or the header of the program that the bytes spell.
+pub fn read(bytes: &[u8]) -> Reading
+    ensures { λ r. ⌜ r ≡ reading (readProgram (now (bytes .entry))) ⌝ }
+{
+    if !is_record(bytes, 0, b"PR", 5) {
+        return refused(1);
+    }
+    let t = bytes[2];
+    let l = bytes[3];
+    let k = bytes[4];
+    if !are_in_range(t, l, k) {
+        return refused(2);
+    }
+    read_threads(bytes, t, l, k)
+}
+
+// Line i of thread t of an accepted input, with its header.
+pub fn line_at(bytes: &[u8], header: Header, t: usize, i: usize) -> Line
+    requires { ⌜ Accepted (now bytes) header ⌝ }
+    requires { ⌜ (t < length (programOf (now bytes) .threads)) × (i < length (linesOf (programOf (now bytes)) t)) ⌝ }
+    ensures { λ r. ⌜ ((other : ModelLine) → lineMeans r ≡ getD (linesOf (programOf (now (bytes .entry))) t) i other) ⌝ }
+{
+    let starts = header.starts;
+    let at = starts[t] + i * 7;
+    decode(fields_at(bytes, at), header.values)
+}

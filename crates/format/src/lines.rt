@@ -1,0 +1,125 @@
+// The lines of a thread: their checks, and the line of a record that passed.
+use crate::Check;
+use crate::Line;
+use crate::Operand;
+use crate::checks::Fields;
+use crate::checks::check_fields;
+use crate::checks::is_record;
+ghost use mathlib.Core.Path.{_≡_};
+ghost use Prim.Native.Nat.{_+_, _≤_};
+ghost use lib.ListN.{length, drop};
+ghost use Rattle.program_bytes.specs.Ops.{opAt};
+ghost use Rattle.program_bytes.specs.Format.{operand, readLine, readLines};
+ghost use Rattle.format.specs.Answer.{fieldsOf, operandMeans, lineMeans, checkOf};
+
+fn wide(x: u8) -> usize
+    ensures { λ r. ⌜ r ≡ x ⌝ }
+{
+    x as usize
+}
+
+// The fields of the record at the cursor.
+pub fn fields_at(bytes: &[u8], at: usize) -> Fields
+    requires { ⌜ at + 7 ≤ length (now bytes) ⌝ }
+    ensures { λ r. ⌜ r ≡ fieldsOf (drop at (now (bytes .entry))) ⌝ }
+{
+    Fields {
+        op: bytes[at + 2],
+        reg: bytes[at + 3],
+        target: bytes[at + 4],
+        a: bytes[at + 5],
+        b: bytes[at + 6],
+    }
+}
+
+// Check 3, then checks 5 to 8, of the line that is due at the cursor.
+fn check_line(bytes: &[u8], at: usize, l: u8, k: u8, n: u8) -> Check
+    requires { ⌜ at ≤ length (now bytes) ⌝ }
+    ensures { λ r. ⌜ r ≡ checkOf (readLine l k n (drop at (now (bytes .entry)))) ⌝ }
+{
+    if !is_record(bytes, at, b"IN", 7) {
+        return Check::Failed(3);
+    }
+    check_fields(fields_at(bytes, at), l, k, n)
+}
+
+// All n lines of a thread, from the cursor.
+pub fn check_lines(bytes: &[u8], at: usize, l: u8, k: u8, n: u8) -> Check
+    requires { ⌜ at ≤ length (now bytes) ⌝ }
+    ensures { λ r. ⌜ r ≡ checkOf (readLines l k n n (drop at (now (bytes .entry)))) ⌝ }
+{
+    let mut next = at;
+    let mut left = n;
+    while 0 < left {
+        let line = check_line(bytes, next, l, k, n);
+        match line {
+            Check::Failed(number) => {
+                return Check::Failed(number);
+            }
+            Check::Passed => {
+                next = next + 7;
+                left = left - 1;
+            }
+        }
+    }
+    Check::Passed
+}
+
+// An operand among k values. (A byte between the values and the registers stands for none, and is never used.)
+fn operand_of(k: usize, x: u8) -> Operand
+    ensures { λ r. ⌜ operandMeans r ≡ operand k x ⌝ }
+{
+    let v = x as usize;
+    if v < k {
+        return Operand::Constant(v);
+    }
+    if v < 128 {
+        return Operand::Register(0);
+    }
+    Operand::Register(v - 128)
+}
+
+// The line that the fields of an op's record are.
+pub fn decode(f: Fields, k: usize) -> Line
+    ensures { λ r. ⌜ lineMeans r ≡ opAt (f .op) .makes (f .reg) (f .target) (operand k (f .a)) (operand k (f .b)) ⌝ }
+{
+    let op = f.op;
+    let reg = f.reg as usize;
+    let target = f.target as usize;
+    let a = operand_of(k, f.a);
+    let b = operand_of(k, f.b);
+    match op {
+        2 => Line::Equal { reg, a, b },
+        3 => Line::Less { reg, a, b },
+        4 => Line::Jump { target, a },
+        5 => Line::Write {
+            location: target,
+            a,
+        },
+        6 => Line::Read {
+            reg,
+            location: target,
+        },
+        7 => Line::Fadd {
+            reg,
+            location: target,
+            a,
+        },
+        8 => Line::Cas {
+            reg,
+            location: target,
+            a,
+            b,
+        },
+        9 => Line::Wait {
+            location: target,
+            a,
+        },
+        10 => Line::Bcas {
+            location: target,
+            a,
+            b,
+        },
+        _ => Line::Sum { reg, a, b },
+    }
+}

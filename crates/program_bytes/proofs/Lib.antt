@@ -1,0 +1,17 @@
+pub mod OutcomeLaws
+pub mod PartsLaws
+pub mod FrontLaws
+pub mod RecordLaws
+pub mod FieldLaws
+pub mod RowLaws
+pub mod AllLaws
+pub mod SpellingLength
+pub mod HeaderLaws
+pub mod AcceptedLine
+pub mod AcceptedThreads
+pub mod SpelledLine
+pub mod SpelledThreads
+pub mod RoundTrip
+pub mod Refusals
+pub mod StartLaws
+pub mod Places

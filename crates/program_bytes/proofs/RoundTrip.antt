@@ -1,0 +1,85 @@
+-- The program bytes there and back.
+use Prim.Native.Nat.{ℕ}
+use mathlib.Core.Bool.{true}
+use mathlib.Core.List.{List, [], _∷_, _++_, append-nil}
+use mathlib.Core.Path.{_≡_, refl, sym, ap, ap₂, subst, _∙_}
+use native.Mathlib.Omega.{arith}
+use lib.ListN.{length, getD, drop}
+use borrow.Author.Tests.{eqb-true}
+use Rattle.model.specs.Program.{Line, Program}
+use Rattle.program_bytes.specs.Outcome.Outcome.{accepted}
+use Rattle.program_bytes.specs.Format.{markPR, sizePR, isRecord, endsAfter, readThreads, readProgram}
+use Rattle.program_bytes.specs.Spelling.{spellThreads, spell, Within}
+use Rattle.program_bytes.proofs.OutcomeLaws.{accepted-injective, check-passes, check-accepted}
+use Rattle.program_bytes.proofs.OutcomeLaws.{andThen-goes-on, andThen-accepted}
+use Rattle.program_bytes.proofs.RecordLaws.{record-found}
+use Rattle.program_bytes.proofs.HeaderLaws.{InRange, in-range, are-in-range, program-record-stands}
+use Rattle.program_bytes.proofs.AcceptedThreads.{ThreadsRead, threads-read}
+use Rattle.program_bytes.proofs.SpelledThreads.{read-threads}
+
+-- Reading the spelling of a program within the limits gives that program.
+pub read-spelling : (p : Program) → Within p → readProgram (spell p) ≡ accepted p
+unfolding readProgram spell endsAfter
+read-spelling p h =
+    let T = length (p .threads) in
+    let L = p .locations in
+    let K = p .values in
+    let bytes = spellThreads (p .threads) in
+    let range : InRange T L K = record {
+      some-threads = h .some-threads;
+      few-threads = h .few-threads;
+      some-locations = h .some-locations;
+      few-locations = h .few-locations;
+      some-values = h .some-values;
+      few-values = h .few-values;
+    } in
+    let to-the-end = ap (readThreads L K T) (sym (append-nil bytes)) in
+    let threads = read-threads L K (h .some-values) (h .few-values) (p .threads) [] (h .each) in
+    check-passes _ _ _ (record-found markPR sizePR (T ∷ L ∷ K ∷ bytes) (omega arith))
+    ∙ check-passes _ _ _ (are-in-range T L K range)
+    ∙ andThen-goes-on _ _ (to-the-end ∙ threads)
+    ∙ check-passes _ _ _ refl
+
+-- A list of length 0 is empty.
+empty : (bytes : List ℕ) → length bytes ≡ 0 → bytes ≡ []
+empty [] e = refl
+empty (b ∷ bytes) e = absurd (omega arith)
+
+-- Threads in range, up to the end of the input, are the spelling of a program within the limits.
+program-spelled : (bytes : List ℕ) {threads : List (List Line)} {rest : List ℕ}
+    → isRecord markPR sizePR bytes ≡ true
+    → InRange (getD bytes 2 0) (getD bytes 3 0) (getD bytes 4 0)
+    → ThreadsRead (getD bytes 3 0) (getD bytes 4 0) (getD bytes 2 0) (drop sizePR bytes) threads rest
+    → length rest ≡ 0
+    → let p : Program = record { threads = threads; locations = getD bytes 3 0; values = getD bytes 4 0 } in
+    (bytes ≡ spell p) × Within p
+unfolding spell
+program-spelled bytes {threads} {rest} due range read ended =
+    let to-the-end = ap (λ l. spellThreads threads ++ l) (empty rest ended) ∙ append-nil (spellThreads threads) in (
+      program-record-stands bytes due
+          ∙ ap₂ (λ count l. markPR ++ count ∷ getD bytes 3 0 ∷ getD bytes 4 0 ∷ l)
+          (sym (read .counted))
+          (read .spelled ∙ to-the-end),
+      record {
+        some-threads = rw (read .counted) (range .some-threads);
+        few-threads = rw (read .counted) (range .few-threads);
+        some-locations = range .some-locations;
+        few-locations = range .few-locations;
+        some-values = range .some-values;
+        few-values = range .few-values;
+        each = read .within;
+      },
+    )
+
+-- An accepted input is the spelling of the program that it gives, which is within the limits.
+pub accepted-is-spelling : (bytes : List ℕ) (p : Program) → readProgram bytes ≡ accepted p
+    → (bytes ≡ spell p) × Within p
+unfolding readProgram endsAfter
+accepted-is-spelling bytes p e =
+    let one = check-accepted _ _ _ e in
+    let two = check-accepted _ _ _ (one .1) in
+    let (got, at-threads, then) = andThen-accepted _ _ (two .1) in
+    let nine = check-accepted _ _ _ then in
+    let read = threads-read _ _ _ _ at-threads in
+    subst (λ p. (bytes ≡ spell p) × Within p) (accepted-injective (nine .1))
+    (program-spelled bytes (one .0) (in-range _ _ _ (two .0)) read (eqb-true (length (got .1)) 0 (nine .0)))

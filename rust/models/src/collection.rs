@@ -1,0 +1,64 @@
+//! The models of this repository, each with the verdict that its text expects.
+
+use std::fs;
+use std::path::{Path, PathBuf};
+
+use crate::assemble;
+
+/// What a model expects of the checker.
+#[derive(Clone, Copy, Debug, PartialEq, Eq)]
+pub enum Verdict {
+    /// `# expect RB`
+    Robust,
+    /// `# expect NR`
+    NotRobust,
+}
+
+/// A model that assembles and says what it expects.
+#[derive(Clone, Debug)]
+pub struct Model {
+    /// The name of its file, without the ending.
+    pub name: String,
+    /// Its program bytes.
+    pub bytes: Vec<u8>,
+    /// The verdict of its `# expect` line.
+    pub expected: Verdict,
+}
+
+/// Where the models stand: `models/` at the root of the repository.
+pub fn directory() -> PathBuf {
+    Path::new(env!("CARGO_MANIFEST_DIR")).join("../../models")
+}
+
+/// All models of the directory, by name, or what is wrong with the first that is no good one.
+pub fn load(directory: &Path) -> Result<Vec<Model>, String> {
+    let show = |error: std::io::Error| format!("{}: {error}", directory.display());
+    let mut models = Vec::new();
+    for entry in fs::read_dir(directory).map_err(show)? {
+        let path = entry.map_err(show)?.path();
+        if path.extension().is_some_and(|ending| ending == "order") {
+            models.push(load_one(&path).map_err(|what| format!("{}:{what}", path.display()))?);
+        }
+    }
+    models.sort_by(|one, other| one.name.cmp(&other.name));
+    Ok(models)
+}
+
+fn load_one(path: &Path) -> Result<Model, String> {
+    let text = fs::read_to_string(path).map_err(|error| format!(" {error}"))?;
+    Ok(Model {
+        name: path.file_stem().unwrap_or_default().to_string_lossy().into_owned(),
+        bytes: assemble(text.as_bytes()).map_err(|mistake| mistake.to_string())?,
+        expected: expected(&text)?,
+    })
+}
+
+/// The verdict of the one line `# expect RB` or `# expect NR`.
+pub fn expected(text: &str) -> Result<Verdict, String> {
+    let mut verdicts = text.lines().filter_map(|line| line.strip_prefix("# expect"));
+    match (verdicts.next(), verdicts.next()) {
+        (Some(" RB"), None) => Ok(Verdict::Robust),
+        (Some(" NR"), None) => Ok(Verdict::NotRobust),
+        _ => Err(" expected one line '# expect RB' or '# expect NR'".into()),
+    }
+}

@@ -1,0 +1,82 @@
+//! A walk over the tokens of a text that says what it expected where it stops.
+
+use crate::lexer::{tokens, Piece, Token};
+use crate::mistake::Mistake;
+
+/// The tokens from the next one on.
+pub struct Cursor<'a> {
+    tokens: Vec<Token<'a>>,
+    next: usize,
+}
+
+impl<'a> Cursor<'a> {
+    /// At the start of the text.
+    pub fn new(text: &'a str) -> Cursor<'a> {
+        Cursor { tokens: tokens(text), next: 0 }
+    }
+
+    /// The next token. After the end of the file comes the end of the file.
+    pub fn peek(&self) -> Token<'a> {
+        self.tokens[self.next.min(self.tokens.len() - 1)]
+    }
+
+    /// The next token, which is passed.
+    pub fn take(&mut self) -> Token<'a> {
+        let token = self.peek();
+        self.next += 1;
+        token
+    }
+
+    /// Passes the word or sign if it comes next.
+    pub fn take_if(&mut self, text: &str) -> bool {
+        let comes = matches!(self.peek().piece, Piece::Word(next) | Piece::Sign(next) if next == text);
+        if comes {
+            self.next += 1;
+        }
+        comes
+    }
+
+    /// Passes the word or sign, which must come next.
+    pub fn expect(&mut self, text: &str) -> Result<(), Mistake> {
+        if self.take_if(text) {
+            Ok(())
+        } else {
+            Err(self.mistake(format!("'{text}'")))
+        }
+    }
+
+    /// Passes the end of the line, which must come next; the last line may end with the file.
+    pub fn expect_end_of_line(&mut self) -> Result<(), Mistake> {
+        match self.peek().piece {
+            Piece::EndOfLine => self.next += 1,
+            Piece::EndOfFile => {}
+            _ => return Err(self.mistake("the end of the line")),
+        }
+        Ok(())
+    }
+
+    /// Passes lines with nothing on them.
+    pub fn skip_empty_lines(&mut self) {
+        while self.peek().piece == Piece::EndOfLine {
+            self.next += 1;
+        }
+    }
+
+    /// A word and a colon come next.
+    pub fn at_label(&self) -> bool {
+        let after = self.tokens.get(self.next + 1).map(|token| token.piece);
+        matches!(self.peek().piece, Piece::Word(_)) && after == Some(Piece::Sign(":"))
+    }
+
+    /// The mistake that the next token is.
+    pub fn mistake(&self, expected: impl Into<String>) -> Mistake {
+        self.peek().mistake(expected)
+    }
+}
+
+impl Token<'_> {
+    /// The mistake that the token is where something else was expected.
+    pub fn mistake(&self, expected: impl Into<String>) -> Mistake {
+        Mistake { place: self.place, expected: expected.into(), found: self.piece.to_string() }
+    }
+}

@@ -1,0 +1,116 @@
+//! The models of this repository: each assembles, is accepted, and says what it expects.
+
+use std::fs;
+
+use models::collection::{self, Model, Verdict};
+use second::{read, Line, Operand};
+
+fn all() -> Vec<Model> {
+    collection::load(&collection::directory()).unwrap()
+}
+
+fn bytes_of(name: &str) -> Vec<u8> {
+    let model = all().into_iter().find(|model| model.name == name);
+    model.unwrap_or_else(|| panic!("no model {name}")).bytes
+}
+
+#[test]
+fn every_model_is_accepted() {
+    for model in all() {
+        assert!(read(&model.bytes).is_ok(), "{}", model.name);
+    }
+}
+
+#[test]
+fn every_file_is_a_model() {
+    let files = fs::read_dir(collection::directory()).unwrap().map(|entry| entry.unwrap().file_name());
+    let names: Vec<String> = files.map(|name| name.to_string_lossy().into_owned()).collect();
+    let others: Vec<_> =
+        names.iter().filter(|name| !name.ends_with(".order") && *name != "README.md").collect();
+    assert!(others.is_empty(), "neither a model nor README.md: {others:?}");
+    assert_eq!(all().len(), names.iter().filter(|name| name.ends_with(".order")).count());
+}
+
+#[test]
+fn the_litmus_programs_of_the_source_expect_what_it_says() {
+    for (name, expected) in [
+        ("barrier-loop", Verdict::NotRobust),
+        ("barrier", Verdict::Robust),
+        ("sb", Verdict::NotRobust),
+        ("mp", Verdict::Robust),
+        ("iriw", Verdict::NotRobust),
+        ("2+2w", Verdict::NotRobust),
+        ("2rmw", Verdict::Robust),
+        ("sb+rmws", Verdict::Robust),
+        ("sb-zeros", Verdict::NotRobust),
+        ("2+2w-no-reads", Verdict::NotRobust),
+    ] {
+        let model = all().into_iter().find(|model| model.name == name);
+        assert_eq!(model.map(|model| model.expected), Some(expected), "{name}");
+    }
+}
+
+#[test]
+fn the_cases_of_document_01_have_its_bytes() {
+    assert_eq!(bytes_of("empty-thread"), b"PR\x01\x01\x02TH\x00");
+    assert_eq!(
+        bytes_of("mp"),
+        [
+            b"PR\x02\x02\x02TH\x02IN\x05\x00\x00\x01\x00IN\x05\x00\x01\x01\x00".as_slice(),
+            b"TH\x02IN\x06\x00\x01\x00\x00IN\x06\x01\x00\x00\x00",
+        ]
+        .concat()
+    );
+    assert_eq!(
+        bytes_of("2+2w"),
+        [
+            b"PR\x02\x02\x03TH\x03IN\x05\x00\x00\x01\x00IN\x05\x00\x01\x02\x00IN\x06\x00\x01\x00\x00"
+                .as_slice(),
+            b"TH\x03IN\x05\x00\x01\x01\x00IN\x05\x00\x00\x02\x00IN\x06\x00\x00\x00\x00",
+        ]
+        .concat()
+    );
+    assert_eq!(
+        bytes_of("barrier"),
+        [
+            b"PR\x02\x02\x02TH\x02IN\x05\x00\x00\x01\x00IN\x09\x00\x01\x01\x00".as_slice(),
+            b"TH\x02IN\x05\x00\x01\x01\x00IN\x09\x00\x00\x01\x00",
+        ]
+        .concat()
+    );
+    assert_eq!(bytes_of("jump-to-end")[8..15], *b"IN\x04\x00\x02\x01\x00");
+}
+
+#[test]
+fn the_models_use_every_op_and_registers_as_operands() {
+    let lines: Vec<Line> =
+        all().iter().flat_map(|model| read(&model.bytes).unwrap().threads).flatten().collect();
+    let ops: std::collections::BTreeSet<u8> = lines.iter().map(|line| models::fields(line)[0]).collect();
+    assert_eq!(ops, (1..=10).collect());
+    assert!(lines.iter().any(|line| matches!(line, Line::Write { a: Operand::Register(_), .. })));
+}
+
+#[test]
+fn an_expectation_is_one_line() {
+    let expected = collection::expected;
+    assert_eq!(expected("# expect RB\nvalues 2\n"), Ok(Verdict::Robust));
+    assert_eq!(expected("values 2\n# expect NR"), Ok(Verdict::NotRobust));
+    for text in ["", "values 2", "# expect", "# expect FU", "# expect RB NR", "# expect RB\n# expect NR"] {
+        assert!(expected(text).is_err(), "{text}");
+    }
+}
+
+#[test]
+fn a_directory_with_a_bad_model_is_refused_by_name() {
+    let directory = std::path::Path::new(env!("CARGO_TARGET_TMPDIR")).join("bad-model");
+    fs::create_dir_all(&directory).unwrap();
+    fs::write(directory.join("no-verdict.order"), "values 2\nlocations x\nthread\n").unwrap();
+    let message = collection::load(&directory).unwrap_err();
+    assert!(
+        message.ends_with("no-verdict.order: expected one line '# expect RB' or '# expect NR'"),
+        "{message}"
+    );
+    fs::write(directory.join("no-verdict.order"), "# expect RB\nvalue 2\n").unwrap();
+    let message = collection::load(&directory).unwrap_err();
+    assert!(message.ends_with("no-verdict.order:2:1: expected 'values', found 'value'"), "{message}");
+}

@@ -1,0 +1,135 @@
+//! The command `order_asm`, run as a user runs it.
+
+use std::fs;
+use std::io::Write;
+use std::path::PathBuf;
+use std::process::{Command, Output, Stdio};
+
+const SB: &str = "values 2\nlocations x y\nthread\n  x := 1\n  r0 := y\nthread\n  y := 1\n  r0 := x\n";
+const SB_BYTES: &[u8] = b"PR\x02\x02\x02TH\x02IN\x05\x00\x00\x01\x00IN\x06\x00\x01\x00\x00\
+      TH\x02IN\x05\x00\x01\x01\x00IN\x06\x00\x00\x00\x00";
+
+/// Runs it in a directory of the test's own, with this standard input.
+fn run(test: &str, arguments: &[&str], input: &[u8]) -> Output {
+    let mut child = Command::new(env!("CARGO_BIN_EXE_order_asm"))
+        .args(arguments)
+        .current_dir(directory(test))
+        .stdin(Stdio::piped())
+        .stdout(Stdio::piped())
+        .stderr(Stdio::piped())
+        .spawn()
+        .unwrap();
+    // It may stop before it has read all.
+    let _ = child.stdin.take().unwrap().write_all(input);
+    child.wait_with_output().unwrap()
+}
+
+fn directory(test: &str) -> PathBuf {
+    let directory = PathBuf::from(env!("CARGO_TARGET_TMPDIR")).join(test);
+    fs::create_dir_all(&directory).unwrap();
+    directory
+}
+
+/// It ends well and writes this to standard output, and nothing else.
+#[track_caller]
+fn good(output: &Output, expected: &[u8]) {
+    assert_eq!(String::from_utf8_lossy(&output.stderr), "");
+    assert_eq!(output.status.code(), Some(0));
+    assert_eq!(output.stdout, expected);
+}
+
+/// It ends with this status and this message on standard error, and writes nothing else.
+#[track_caller]
+fn bad(output: &Output, status: i32, message: &str) {
+    assert_eq!(String::from_utf8_lossy(&output.stderr), message);
+    assert_eq!(output.status.code(), Some(status));
+    assert_eq!(output.stdout, b"");
+}
+
+#[test]
+fn it_assembles_a_file_or_standard_input() {
+    let test = "assembles";
+    fs::write(directory(test).join("sb.order"), SB).unwrap();
+    good(&run(test, &["sb.order"], b""), SB_BYTES);
+    good(&run(test, &["-"], SB.as_bytes()), SB_BYTES);
+    good(&run(test, &[], SB.as_bytes()), SB_BYTES);
+}
+
+#[test]
+fn it_disassembles_a_file_or_standard_input() {
+    let test = "disassembles";
+    fs::write(directory(test).join("sb"), SB_BYTES).unwrap();
+    good(&run(test, &["--dis", "sb"], b""), SB.as_bytes());
+    good(&run(test, &["sb", "--dis"], b""), SB.as_bytes());
+    good(&run(test, &["--dis"], SB_BYTES), SB.as_bytes());
+}
+
+#[test]
+fn it_writes_the_file_that_o_names() {
+    let test = "writes";
+    let file = directory(test).join("out");
+    good(&run(test, &["-o", "out"], SB.as_bytes()), b"");
+    assert_eq!(fs::read(&file).unwrap(), SB_BYTES);
+    good(&run(test, &["--dis", "-o", "out"], SB_BYTES), b"");
+    assert_eq!(fs::read(&file).unwrap(), SB.as_bytes());
+}
+
+#[test]
+fn a_mistake_has_its_file_line_and_column_and_leaves_no_output() {
+    let test = "mistake";
+    let text = SB.replace("r0 := x", "r0 := z");
+    fs::write(directory(test).join("bad.order"), &text).unwrap();
+    let what =
+        "8:9: expected a value from 0 to 1, a register (r0 to r3), a location (x, y), 'FADD' or 'CAS', \
+                found 'z'\n";
+    bad(&run(test, &["bad.order"], b""), 1, &format!("bad.order:{what}"));
+    bad(&run(test, &[], text.as_bytes()), 1, &format!("standard input:{what}"));
+
+    bad(&run(test, &["bad.order", "-o", "never"], b""), 1, &format!("bad.order:{what}"));
+    assert!(!directory(test).join("never").exists());
+    fs::write(directory(test).join("kept"), "as it was").unwrap();
+    bad(&run(test, &["bad.order", "-o", "kept"], b""), 1, &format!("bad.order:{what}"));
+    assert_eq!(fs::read(directory(test).join("kept")).unwrap(), b"as it was");
+}
+
+#[test]
+fn refused_bytes_get_the_number_of_the_check_and_leave_no_output() {
+    let test = "refused";
+    let message = |number| format!("standard input: not a program: check {number} of document 01 fails\n");
+    bad(&run(test, &["--dis"], b""), 1, &message(1));
+    bad(&run(test, &["--dis"], b"PR\x01\x01\x01TH\x00"), 1, &message(2));
+    bad(&run(test, &["--dis", "-o", "never"], &[SB_BYTES, b"\n"].concat()), 1, &message(9));
+    assert!(!directory(test).join("never").exists());
+}
+
+#[test]
+fn a_file_that_is_not_there_is_named() {
+    let output = run("missing", &["missing.order"], b"");
+    assert_eq!(output.status.code(), Some(1));
+    assert_eq!(output.stdout, b"");
+    assert!(String::from_utf8_lossy(&output.stderr).starts_with("missing.order: "));
+    let output = run("missing", &["-o", "no/such/directory"], SB.as_bytes());
+    assert_eq!(output.status.code(), Some(1));
+    assert!(String::from_utf8_lossy(&output.stderr).starts_with("no/such/directory: "));
+}
+
+#[test]
+fn a_command_line_that_says_nothing_known_is_2() {
+    let message = |what: &str| format!("order_asm: {what}; see order_asm --help\n");
+    let found = message("expected --dis, -o or a file name, found --das");
+    bad(&run("usage", &["--das"], b""), 2, &found);
+    bad(&run("usage", &["-o"], b""), 2, &message("expected a file name after -o"));
+    bad(&run("usage", &["-o", "a", "-o", "b"], b""), 2, &message("expected one -o"));
+    bad(&run("usage", &["a", "b"], b""), 2, &message("expected one file name, found b after a"));
+}
+
+#[test]
+fn help_shows_a_model_that_assembles() {
+    let output = run("help", &["--help"], b"");
+    assert_eq!(output.status.code(), Some(0));
+    let help = String::from_utf8(output.stdout).unwrap();
+    let start = help.find("    # store buffering").expect("a model in the help");
+    let end = help.find("The lines").expect("text after it");
+    good(&run("help", &[], &help.as_bytes()[start..end]), SB_BYTES);
+    assert_eq!(run("help", &["-h"], b"").stdout, help.as_bytes());
+}

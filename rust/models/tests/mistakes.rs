@@ -1,0 +1,179 @@
+//! What the assembler says of a model with a mistake: the place, what was expected and what was found.
+
+use models::assemble;
+
+/// The message, with line and column in front.
+fn message(text: &str) -> String {
+    match assemble(text.as_bytes()) {
+        Ok(bytes) => panic!("{text}\nwas assembled to {bytes:?}"),
+        Err(mistake) => mistake.to_string(),
+    }
+}
+
+#[track_caller]
+fn expect(text: &str, expected: &str) {
+    assert_eq!(message(text), expected, "{text}");
+}
+
+/// The message for one line, the fourth, of a thread among locations x and y and 3 values.
+#[track_caller]
+fn expect_line(line: &str, expected: &str) {
+    expect(&format!("values 3\nlocations x y\nthread\n{line}\n"), expected);
+}
+
+const OPERAND: &str = "a value from 0 to 2 or a register (r0 to r3)";
+const START: &str =
+    "a line that starts with a register (r0 to r3), a location (x, y), 'if', 'wait' or 'BCAS'";
+
+#[test]
+fn a_header_comes_first() {
+    expect("", "1:1: expected 'values', found the end of the file");
+    expect("# nothing\n", "2:1: expected 'values', found the end of the file");
+    expect("locations x\n", "1:1: expected 'values', found 'locations'");
+    expect("values 2\nthread\n", "2:1: expected 'locations', found 'thread'");
+    expect("values 2\nlocations x\n", "3:1: expected 'thread', found the end of the file");
+    expect("values 2\nlocations x\nx := 1\n", "3:1: expected 'thread', found 'x'");
+    expect("values 2 locations x", "1:10: expected the end of the line, found 'locations'");
+}
+
+#[test]
+fn values_are_2_to_16() {
+    let rest = "\nlocations x\nthread\n";
+    for (found, shown) in [("1", "'1'"), ("17", "'17'"), ("999999999999999999999", "'999999999999999999999'")]
+    {
+        let expected = format!("1:8: expected a number from 2 to 16, found {shown}");
+        expect(&format!("values {found}{rest}"), &expected);
+    }
+    expect(&format!("values x{rest}"), "1:8: expected a number from 2 to 16, found 'x'");
+    expect(&format!("values{rest}"), "1:7: expected a number from 2 to 16, found the end of the line");
+    expect("values", "1:7: expected a number from 2 to 16, found the end of the file");
+    expect(&format!("values 2 3{rest}"), "1:10: expected the end of the line, found '3'");
+}
+
+#[test]
+fn locations_are_1_to_8_new_names() {
+    let header = |locations: &str| format!("values 2\nlocations{locations}\nthread\n");
+    expect(&header(""), "2:10: expected a name for a location, found the end of the line");
+    expect(&header(" 7"), "2:11: expected a name for a location, found '7'");
+    expect(&header(" x, y"), "2:12: expected the end of the line, found ','");
+    expect(&header(" x y x"), "2:15: expected a name for a location, found 'x', the name of a location");
+    expect(&header(" x goto"), "2:13: expected a name for a location, found 'goto', a word of the language");
+    expect(&header(" x r0"), "2:13: expected a name for a location, found 'r0', kept for registers");
+    expect(&header(" r17"), "2:11: expected a name for a location, found 'r17', kept for registers");
+    expect(&header(" a b c d e f g h i"), "2:27: expected the end of the line after 8 locations, found 'i'");
+    assert!(assemble(header(" r rx r_0 If").as_bytes()).is_ok());
+}
+
+#[test]
+fn threads_are_1_to_8_of_at_most_64_lines() {
+    let header = "values 2\nlocations x\n";
+    let nine = format!("{header}{}", "thread\n".repeat(9));
+    expect(&nine, "11:1: expected the end of the file after 8 threads, found 'thread'");
+    let long = format!("{header}thread\n{}", "  x := 1\n".repeat(65));
+    expect(&long, "68:3: expected the end of the thread after 64 lines, found 'x'");
+    // The rest of the 65th line does not count.
+    let worse = format!("{header}thread\n{}  again: nonsense", "x := 1\n".repeat(64));
+    expect(&worse, "68:10: expected the end of the thread after 64 lines, found 'nonsense'");
+    expect(&format!("{header}thread x\n"), "3:8: expected the end of the line, found 'x'");
+    let labelled = format!("{header}thread\nend: thread\n");
+    expect(&labelled, &format!("4:6: expected {}, found 'thread'", START.replace("x, y", "x")));
+}
+
+#[test]
+fn a_line_starts_with_a_register_a_location_or_a_word() {
+    for (line, found) in [
+        ("z := 1", "'z'"),
+        ("r4 := 1", "'r4'"),
+        ("r00 := 1", "'r00'"),
+        ("1 := x", "'1'"),
+        (":= x", "':='"),
+        ("goto x", "'goto'"),
+        ("CAS(x, 0 -> 1)", "'CAS'"),
+        ("FADD(x, 1)", "'FADD'"),
+        ("values 3", "'values'"),
+        ("again", "'again'"),
+        ("@", "'@'"),
+        ("é", "'é'"),
+    ] {
+        expect_line(line, &format!("4:1: expected {START}, found {found}"));
+    }
+}
+
+#[test]
+fn assignments() {
+    expect_line("x", "4:2: expected ':=', found the end of the line");
+    expect_line("x = 1", "4:3: expected ':=', found '='");
+    expect_line("r0 : = x", "4:1: expected a name for a label, found 'r0', kept for registers");
+    expect_line("x := 3", &format!("4:6: expected {OPERAND}, found '3'"));
+    expect_line("x := 256", &format!("4:6: expected {OPERAND}, found '256'"));
+    expect_line("x := r4", &format!("4:6: expected {OPERAND}, found 'r4'"));
+    expect_line("x := y", &format!("4:6: expected {OPERAND}, found 'y'"));
+    expect_line("x :=", &format!("4:5: expected {OPERAND}, found the end of the line"));
+    expect_line("x := 1 + 1", "4:8: expected the end of the line, found '+'");
+    expect_line("x := 1; y := 1", "4:7: expected the end of the line, found ';'");
+    let right = "a value from 0 to 2, a register (r0 to r3), a location (x, y), 'FADD' or 'CAS'";
+    expect_line("r0 := z", &format!("4:7: expected {right}, found 'z'"));
+    expect_line("r0 := 3", &format!("4:7: expected {right}, found '3'"));
+    expect_line("r0 := BCAS(x, 0 -> 1)", &format!("4:7: expected {right}, found 'BCAS'"));
+    expect_line("r0 := x + 1", "4:9: expected the end of the line, found '+'");
+    expect_line("r0 := 1 + x", &format!("4:11: expected {OPERAND}, found 'x'"));
+    expect_line("r0 := 1 - 1", "4:9: expected the end of the line, found '-'");
+    expect_line("r0 := 1 + 1 + 1", "4:13: expected the end of the line, found '+'");
+    expect_line("r0 := 1 < 9", &format!("4:11: expected {OPERAND}, found '9'"));
+    expect_line("r0 := 1 = # 1", &format!("4:14: expected {OPERAND}, found the end of the line"));
+}
+
+#[test]
+fn accesses_with_brackets() {
+    let location = "a location (x, y)";
+    expect_line("wait x = 1", "4:6: expected '(', found 'x'");
+    expect_line("wait(1 = x)", &format!("4:6: expected {location}, found '1'"));
+    expect_line("wait(x := 1)", "4:8: expected '=', found ':='");
+    expect_line("wait(x = 3)", &format!("4:10: expected {OPERAND}, found '3'"));
+    expect_line("wait(x = 1", "4:11: expected ')', found the end of the line");
+    expect_line("wait(x = 1))", "4:12: expected the end of the line, found ')'");
+    expect_line("BCAS(z, 0 -> 1)", &format!("4:6: expected {location}, found 'z'"));
+    expect_line("BCAS(x 0 -> 1)", "4:8: expected ',', found '0'");
+    expect_line("BCAS(x, 0, 1)", "4:10: expected '->', found ','");
+    expect_line("BCAS(x, 0 - 1)", "4:11: expected '->', found '-'");
+    expect_line("r0 := CAS(x, 0 -> 3)", &format!("4:19: expected {OPERAND}, found '3'"));
+    expect_line("r0 := CAS(x, 0 -> 1", "4:20: expected ')', found the end of the line");
+    expect_line("r0 := FADD x", "4:12: expected '(', found 'x'");
+    expect_line("r0 := FADD(r0, 1)", &format!("4:12: expected {location}, found 'r0'"));
+    expect_line("r0 := FADD(x)", "4:13: expected ',', found ')'");
+    expect_line("r0 := FADD(x, 1 -> 2)", "4:17: expected ')', found '->'");
+}
+
+#[test]
+fn jumps_and_labels() {
+    let label = "a label of this thread";
+    expect_line("if r0 goto again", &format!("4:12: expected {label}, found 'again'"));
+    expect_line("if r0 goto 3", &format!("4:12: expected {label}, found '3'"));
+    expect_line("if r0 goto\n x := 1", &format!("4:11: expected {label}, found the end of the line"));
+    expect_line("if r0 goto again again", "4:18: expected the end of the line, found 'again'");
+    expect_line("if r0 again", "4:7: expected 'goto', found 'again'");
+    expect_line("if x goto again", &format!("4:4: expected {OPERAND}, found 'x'"));
+    expect_line("if r0 < 2 goto again", "4:7: expected 'goto', found '<'");
+    expect_line("a: if 1 goto b\nthread\nb:", &format!("4:14: expected {label}, found 'b'"));
+    let name = "expected a name for a label, found";
+    expect_line("a:\n x := 1\n a:", &format!("6:2: {name} 'a', the name of a label"));
+    expect_line("a: x:", &format!("4:4: {name} 'x', the name of a location"));
+    expect_line("if:", &format!("4:1: {name} 'if', a word of the language"));
+    expect_line("r9:", &format!("4:1: {name} 'r9', kept for registers"));
+    expect_line("7:", &format!("4:1: expected {START}, found '7'"));
+}
+
+#[test]
+fn places_count_characters() {
+    expect_line("\tx := 1 # äöü\n  é", &format!("5:3: expected {START}, found 'é'"));
+    expect_line("x := 1 \u{e9}", "4:8: expected the end of the line, found 'é'");
+    expect_line("x := 1\u{7}", "4:7: expected the end of the line, found '\\u{7}'");
+}
+
+#[test]
+fn a_text_is_utf_8() {
+    let mistake = |bytes: &[u8]| assemble(bytes).map_err(|mistake| mistake.to_string());
+    assert_eq!(mistake(b"\xff"), Err("1:1: expected text in UTF-8, found the byte 255".into()));
+    let late = "values 2\n# ä".bytes().chain([0xc3]).collect::<Vec<_>>();
+    assert_eq!(mistake(&late), Err("2:4: expected text in UTF-8, found the byte 195".into()));
+}

@@ -1,0 +1,75 @@
+//! Random programs that the reader accepts.
+
+use std::ops::RangeInclusive;
+
+use second::limits::{LINES, LOCATIONS, REGISTERS, THREADS, VALUES};
+use second::{Line, Operand, Program};
+
+use crate::Numbers;
+
+/// How large the programs may be.
+pub struct Shape {
+    /// The number of threads.
+    pub threads: RangeInclusive<u8>,
+    /// The number of locations.
+    pub locations: RangeInclusive<u8>,
+    /// The number of values.
+    pub values: RangeInclusive<u8>,
+    /// The number of lines of each thread.
+    pub lines: RangeInclusive<u8>,
+}
+
+impl Shape {
+    /// Up to the limits: every accepted program can come out.
+    pub fn any() -> Shape {
+        Shape { threads: THREADS, locations: LOCATIONS, values: VALUES, lines: LINES }
+    }
+
+    /// A few short threads, as a litmus program has them, so that a search of the program ends soon.
+    pub fn small() -> Shape {
+        Shape { threads: 1..=3, locations: 1..=3, values: 2..=3, lines: 0..=4 }
+    }
+}
+
+/// A program of the shape.
+pub fn program(numbers: &mut Numbers, shape: &Shape) -> Program {
+    let locations = numbers.within(&shape.locations);
+    let values = numbers.within(&shape.values);
+    let threads = (0..numbers.within(&shape.threads))
+        .map(|_| {
+            let n = numbers.within(&shape.lines);
+            (0..n).map(|_| line(numbers, n, locations, values)).collect()
+        })
+        .collect();
+    Program { threads, locations, values }
+}
+
+/// A line of a thread of n lines, each op as often as any other.
+fn line(numbers: &mut Numbers, n: u8, locations: u8, values: u8) -> Line {
+    let reg = numbers.within(&(0..=REGISTERS - 1));
+    let location = numbers.within(&(0..=locations - 1));
+    let target = numbers.within(&(0..=n));
+    let a = operand(numbers, values);
+    let b = operand(numbers, values);
+    match numbers.below(10) {
+        0 => Line::Sum { reg, a, b },
+        1 => Line::Equal { reg, a, b },
+        2 => Line::Less { reg, a, b },
+        3 => Line::Jump { target, a },
+        4 => Line::Write { location, a },
+        5 => Line::Read { reg, location },
+        6 => Line::Fadd { reg, location, a },
+        7 => Line::Cas { reg, location, a, b },
+        8 => Line::Wait { location, a },
+        _ => Line::Bcas { location, a, b },
+    }
+}
+
+/// A constant twice as often as a register.
+fn operand(numbers: &mut Numbers, values: u8) -> Operand {
+    if numbers.once_in(3) {
+        Operand::Register(numbers.within(&(0..=REGISTERS - 1)))
+    } else {
+        Operand::Constant(numbers.within(&(0..=values - 1)))
+    }
+}

@@ -1,0 +1,103 @@
+//! The generator makes what it says it makes, and the same again for the same seed.
+
+use std::collections::HashSet;
+use std::mem::discriminant;
+
+use random::{damage, noise, program, Numbers, Shape};
+use second::limits::{LINES, LOCATIONS, REGISTERS, THREADS, VALUES};
+use second::{Line, Operand, Program};
+
+fn programs(seed: u64, count: usize, shape: &Shape) -> Vec<Program> {
+    let mut numbers = Numbers::new(seed);
+    (0..count).map(|_| program(&mut numbers, shape)).collect()
+}
+
+#[test]
+fn the_row_of_seed_0_is_that_of_splitmix64() {
+    let mut numbers = Numbers::new(0);
+    let row = [numbers.draw(), numbers.draw(), numbers.draw()];
+    assert_eq!(row, [0xe220_a839_7b1d_cdaf, 0x6e78_9e6a_a1b9_65f4, 0x06c4_5d18_8009_454f]);
+}
+
+#[test]
+fn a_seed_fixes_everything() {
+    assert_eq!(programs(1, 20, &Shape::any()), programs(1, 20, &Shape::any()));
+    assert_ne!(programs(1, 20, &Shape::any()), programs(2, 20, &Shape::any()));
+    let damaged = |seed| {
+        let mut bytes = vec![0; 50];
+        damage(&mut Numbers::new(seed), &mut bytes);
+        (bytes, noise(&mut Numbers::new(seed), 50))
+    };
+    assert_eq!(damaged(3), damaged(3));
+}
+
+#[test]
+fn programs_of_any_shape_reach_every_limit() {
+    let programs = programs(4, 2000, &Shape::any());
+    for (what, limits, sizes) in [
+        ("threads", THREADS, programs.iter().map(|p| p.threads.len() as u8).collect::<Vec<_>>()),
+        ("locations", LOCATIONS, programs.iter().map(|p| p.locations).collect()),
+        ("values", VALUES, programs.iter().map(|p| p.values).collect()),
+        ("lines", LINES, programs.iter().flat_map(|p| &p.threads).map(|t| t.len() as u8).collect()),
+    ] {
+        for size in limits.clone() {
+            assert!(sizes.contains(&size), "no program with {size} {what}");
+        }
+        assert!(sizes.iter().all(|size| limits.contains(size)), "{what} past the limits");
+    }
+}
+
+#[test]
+fn programs_use_every_op_register_and_the_end_of_a_thread() {
+    let programs = programs(5, 200, &Shape::any());
+    let lines: Vec<Line> = programs.iter().flat_map(|p| &p.threads).flatten().copied().collect();
+    let kinds: HashSet<_> = lines.iter().map(discriminant).collect();
+    assert_eq!(kinds.len(), 10);
+    for register in 0..REGISTERS {
+        let operand = Operand::Register(register);
+        assert!(lines.iter().any(|line| matches!(line, Line::Write { a, .. } if *a == operand)));
+    }
+    let ends = programs.iter().flat_map(|p| &p.threads).any(|thread| {
+        let end = thread.len() as u8;
+        thread.iter().any(|line| matches!(line, Line::Jump { target, .. } if *target == end))
+    });
+    assert!(ends, "no jump to the end of a thread");
+}
+
+#[test]
+fn small_programs_are_small() {
+    for program in programs(6, 500, &Shape::small()) {
+        assert!((1..=3).contains(&program.threads.len()));
+        assert!((1..=3).contains(&program.locations));
+        assert!((2..=3).contains(&program.values));
+        assert!(program.threads.iter().all(|thread| thread.len() <= 4));
+    }
+}
+
+#[test]
+fn damage_is_mostly_seen() {
+    let original: Vec<u8> = (0..40).collect();
+    let mut numbers = Numbers::new(7);
+    let changed = (0..1000)
+        .filter(|_| {
+            let mut bytes = original.clone();
+            damage(&mut numbers, &mut bytes);
+            bytes != original
+        })
+        .count();
+    assert!(changed > 900, "only {changed} of 1000 were changed");
+}
+
+#[test]
+fn damage_and_noise_take_the_shortest_inputs() {
+    let mut numbers = Numbers::new(8);
+    let grown = (0..1000)
+        .filter(|_| {
+            let mut bytes = Vec::new();
+            damage(&mut numbers, &mut bytes);
+            !bytes.is_empty()
+        })
+        .count();
+    assert!(grown > 500, "only {grown} of 1000 empty inputs got a byte");
+    assert!((0..1000).all(|_| [b"".as_slice(), b"PR"].contains(&noise(&mut numbers, 1).as_slice())));
+}

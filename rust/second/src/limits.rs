@@ -1,0 +1,18 @@
+//! The limits of document 01, section "Program bytes", each in one place.
+
+use std::ops::RangeInclusive;
+
+/// T: "threads 1 to 8".
+pub const THREADS: RangeInclusive<u8> = 1..=8;
+
+/// L: "locations 1 to 8".
+pub const LOCATIONS: RangeInclusive<u8> = 1..=8;
+
+/// K: "values 0 to K−1 with K from 2 to 16".
+pub const VALUES: RangeInclusive<u8> = 2..=16;
+
+/// n: "a thread of n lines, 0 to 64".
+pub const LINES: RangeInclusive<u8> = 0..=64;
+
+/// "reg is 0 to 3": the number of registers.
+pub const REGISTERS: u8 = 4;

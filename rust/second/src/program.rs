@@ -1,0 +1,47 @@
+//! The program as data: document 01, section "Program bytes", without the bytes.
+
+/// An accepted program. Threads stand in their order, so that thread 1 is the first of them.
+#[derive(Clone, Debug, PartialEq, Eq)]
+pub struct Program {
+    /// The lines of each thread; there are T threads.
+    pub threads: Vec<Vec<Line>>,
+    /// L, the number of locations.
+    pub locations: u8,
+    /// K, the number of values.
+    pub values: u8,
+}
+
+/// One line, in the order of the op table: op 1 to op 10, each with the fields that it uses.
+#[derive(Clone, Copy, Debug, PartialEq, Eq)]
+#[allow(missing_docs)] // The fields are named as in document 01.
+pub enum Line {
+    /// reg := A + B modulo K
+    Sum { reg: u8, a: Operand, b: Operand },
+    /// reg := 1 if A = B else 0
+    Equal { reg: u8, a: Operand, b: Operand },
+    /// reg := 1 if A < B else 0
+    Less { reg: u8, a: Operand, b: Operand },
+    /// go to target, a line, if A is not 0
+    Jump { target: u8, a: Operand },
+    /// write A
+    Write { location: u8, a: Operand },
+    /// read into reg
+    Read { reg: u8, location: u8 },
+    /// FADD: add A modulo K, reg := old value
+    Fadd { reg: u8, location: u8, a: Operand },
+    /// CAS from A to B, reg := value found
+    Cas { reg: u8, location: u8, a: Operand, b: Operand },
+    /// wait until the value is A
+    Wait { location: u8, a: Operand },
+    /// blocking CAS from A to B
+    Bcas { location: u8, a: Operand, b: Operand },
+}
+
+/// "A and B are operands".
+#[derive(Clone, Copy, Debug, PartialEq, Eq)]
+pub enum Operand {
+    /// "0 to K−1 is that constant"
+    Constant(u8),
+    /// "128 to 131 is register 0 to 3"
+    Register(u8),
+}
