@@ -5,4 +5,5 @@ pub mod Start
 pub mod Sinks
 pub mod NewEdges
 pub mod Decidable
+pub mod Choices
 pub mod Reachable

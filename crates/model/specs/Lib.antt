@@ -4,3 +4,4 @@ pub mod Graph
 pub mod Order
 pub mod Run
 pub mod Witness
+pub mod Readable

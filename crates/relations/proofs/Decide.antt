@@ -1,7 +1,8 @@
 -- The closure is decided over a list of vertices that has every target of an edge: vertices are allowed between the
 -- ends one at a time.
-use mathlib.Core.Path.{_≡_, subst}
-use mathlib.Core.List.{List, [], _∷_, List·Memᴰ as Member, List·Memᴰ·head, List·Memᴰ·tail, List·Memᴰ·cases-cons}
+use mathlib.Core.Path.{_≡_, refl, sym, ap, subst, subst₂}
+use mathlib.Core.List.{List, [], _∷_, _++_, nil≢cons, head-eq-of-cons-eq, tail-eq-of-cons-eq}
+use mathlib.Core.List.{List·Memᴰ as Member, List·Memᴰ·head, List·Memᴰ·tail, List·Memᴰ·cases-cons}
 use mathlib.Core.List.{List·Memᴰ·not-nil}
 use mathlib.Core.Logic.{_⊎_, inl, inr, ⊎-elim}
 use Rattle.relations.specs.Closure.{Relation, Closure, edge, further, IsOrBefore, Reaches, Precedes, here, later}
@@ -41,6 +42,40 @@ dec-some {A} {P} d (b ∷ l) = dec-map into out (dec-or (d b) (dec-some d l))
 
     out : (a : A) × Member a (b ∷ l) × P a → P b ⊎ ((a : A) × Member a l × P a)
     out h = ⊎-elim (λ q. inl (subst P q (h .2))) (λ m. inr (h .0, m, h .2)) (List·Memᴰ·cases-cons (h .1))
+
+-- No member of the list has the property.
+pub dec-none : {A : Type 0} {P : A → Type 0} → ((a : A) → Dec (P a)) → (l : List A) → Dec ((a : A) → Member a l → P a → ⊥)
+dec-none d l =
+    dec-map (λ n a m h. n (a, m, h)) (λ n h. n (h .0) (h .1) (h .2)) (dec-not (dec-some d l))
+
+-- A place of a list at which the element and what stands after it have a property.
+pub record SplitAt {A : Type 0} (P : A → List A → Type 0) (l : List A) : Type 0 where
+  pub before : List A
+  pub chosen : A
+  pub after : List A
+  pub whole : l ≡ before ++ chosen ∷ after
+  pub holds : P chosen after
+
+module _ {A : Type 0} (P : A → List A → Type 0) where
+  no-split : (l : List A) (a : A) (m : List A) → [] ≡ l ++ a ∷ m → ⊥
+  no-split [] a m h = nil≢cons h
+  no-split (b ∷ l) a m h = nil≢cons h
+
+  split-cases : {a : A} {l : List A} → SplitAt P (a ∷ l) → P a l ⊎ SplitAt P l
+  split-cases {a} {l} s = go (s .before) (s .chosen) (s .after) (s .whole) (s .holds)
+    where
+      go : (b : List A) (c : A) (m : List A) → a ∷ l ≡ b ++ c ∷ m → P c m → P a l ⊎ SplitAt P l
+      go [] c m q h = inl (subst₂ P (sym (head-eq-of-cons-eq q)) (sym (tail-eq-of-cons-eq q)) h)
+      go (d ∷ b) c m q h = inr (record { before = b; chosen = c; after = m; whole = tail-eq-of-cons-eq q; holds = h })
+
+  split-of-cases : {a : A} {l : List A} → P a l ⊎ SplitAt P l → SplitAt P (a ∷ l)
+  split-of-cases {a} {l} (inl h) = record { before = []; chosen = a; after = l; whole = refl; holds = h }
+  split-of-cases {a} {l} (inr s) =
+      record { before = a ∷ s .before; chosen = s .chosen; after = s .after; whole = ap (λ m. a ∷ m) (s .whole); holds = s .holds }
+
+  pub dec-split : ((a : A) (l : List A) → Dec (P a l)) → (l : List A) → Dec (SplitAt P l)
+  dec-split d [] = no (λ s. no-split (s .before) (s .chosen) (s .after) (s .whole))
+  dec-split d (a ∷ l) = dec-map split-of-cases split-cases (dec-or (d a l) (dec-split d l))
 
 pub precedes-not-nil : {A : Type 0} {a b : A} → Precedes a b [] → ⊥
 precedes-not-nil h = elim h [ ]
