@@ -7,3 +7,4 @@ pub mod NewEdges
 pub mod Decidable
 pub mod Choices
 pub mod Reachable
+pub mod Schedules
