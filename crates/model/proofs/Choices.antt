@@ -126,7 +126,7 @@ module _ (p : Program) (s : State) (t : ℕ) (kind : Kind) (x u : ℕ) where
           dec-map
           (λ h. record { effect = e; allows = q; allowed = h .0; known = h .1 .0; ofKind = h .1 .1 .0; ofValue = h .1 .1 .1 })
           (λ h. let same : h .effect ≡ e = cc (h .allows) in
-              (subst (λ (c : Effect). Allowed p (s .graph) t (c .action) after) same (h .allowed), (h .known, (ap (λ (c : Effect). kindOf (c .action)) (sym same) ∙ h .ofKind, h .ofValue))))
+          (subst (λ (c : Effect). Allowed p (s .graph) t (c .action) after) same (h .allowed), (h .known, (ap (λ (c : Effect). kindOf (c .action)) (sym same) ∙ h .ofKind, h .ofValue))))
           (dec-and (dec-allowed p (s .graph) t (e .action) after)
           (dec-and (dec-known after) (dec-and (dec-kind (kindOf (e .action)) kind) (ℕ-discrete (valueOf (s .graph) w) u))))
 
@@ -161,31 +161,32 @@ module _ (p : Program) (s : State) (t : ℕ) (kind : Kind) (x u : ℕ) where
           }
 
       out : (w : Witness p s t kind x u) → (w .access .location ≡ x) × SplitAt (Does (w .access .effects)) (order (s .graph) (w .access .location))
-      out w =
-          (w .ofLocation,
-          record {
-            before = w .access .before;
-            chosen = w .access .picked;
-            after = w .access .after;
-            whole = w .access .split;
-            holds =
-                record {
-                  effect = w .access .effect;
-                  allows = w .access .allows;
-                  allowed = w .allowed;
-                  known =
-                      record {
-                        between = w .stale .between;
-                        newest = w .stale .newest;
-                        last = w .stale .last;
-                        event = w .event;
-                        own = w .own;
-                        known = w .known;
-                      };
-                  ofKind = w .ofKind;
-                  ofValue = w .ofValue;
-                };
-          })
+      out w = (
+        w .ofLocation,
+        record {
+          before = w .access .before;
+          chosen = w .access .picked;
+          after = w .access .after;
+          whole = w .access .split;
+          holds =
+              record {
+                effect = w .access .effect;
+                allows = w .access .allows;
+                allowed = w .allowed;
+                known =
+                    record {
+                      between = w .stale .between;
+                      newest = w .stale .newest;
+                      last = w .stale .last;
+                      event = w .event;
+                      own = w .own;
+                      known = w .known;
+                    };
+                ofKind = w .ofKind;
+                ofValue = w .ofValue;
+              };
+        },
+      )
 
       go : (l : NextLine) → nextLine p t (threadOf s t) ≡ l → Dec (Witness p s t kind x u)
       go ended q = no (λ w. let z : _≡_ {A = ℕ} 0 1 = cc (w .access .line) in omega arith)

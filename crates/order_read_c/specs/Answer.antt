@@ -31,7 +31,7 @@ withHeader number h =
       locations = h .locations;
       values = h .values;
       starts = h .starts;
-      counts = h .counts
+      counts = h .counts;
     }
 
 unfoldable pub headerAnswer : Outcome Program → HeaderAnswer

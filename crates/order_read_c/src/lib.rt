@@ -1,6 +1,7 @@
 // The reader for C and Rust: a static library of two functions.
-use format::{Check, Line, Operand};
-
+use format::Check;
+use format::Line;
+use format::Operand;
 ghost use mathlib.Core.Path.{_≡_};
 ghost use Rattle.program_bytes.specs.Format.{readProgram};
 ghost use Rattle.format.specs.Answer.{operandMeans, lineMeans};
