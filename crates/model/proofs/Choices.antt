@@ -1,9 +1,9 @@
 -- What a step may pick is decided: the rule of release/acquire, stale values, and witnesses.
-use mathlib.Core.Path.{_≡_, refl, sym, ap, _∙_, subst, subst⁻¹}
+use mathlib.Core.Path.{_≡_, refl, sym, ap, _∙_, subst}
 use mathlib.Core.Bool.{Bool, true, false, Bool-discrete}
 use mathlib.Core.List.{List, [], _∷_, _++_, List·Memᴰ as Member, cons≢nil}
 use mathlib.Core.Option.{Option, none, some}
-use mathlib.Core.Logic.{_⊎_, inl, inr, ⊎-elim}
+use mathlib.Core.Logic.{_⊎_, inl, inr}
 use Prim.Native.Nat.{ℕ}
 use native.Mathlib.Omega.{arith}
 use native.Mathlib.Decide.{ℕ-discrete}
@@ -11,11 +11,12 @@ use Rattle.relations.specs.Closure.{Reaches}
 use Rattle.relations.proofs.Decide.{dec-map, dec-and, dec-not, dec-none, dec-some, SplitAt, dec-split}
 use Rattle.relations.proofs.Lists.{Snoc, empty-or-snoc, snoc-not-nil, same-last}
 use Rattle.model.specs.Program.{Program}
-use Rattle.model.specs.Thread.{Action, Kind, Read, Write, Update, kindOf, Effect, NextLine, ended, local, access, nextLine}
+use Rattle.model.specs.Thread.{Action, Kind, Read, Write, Update, kindOf, Effect, NextLine, ended, local}
+use Rattle.model.specs.Thread.{access, nextLine}
 use Rattle.model.specs.Graph.{Id, Graph, order, threadEvents, valueOf}
 use Rattle.model.specs.Order.{HappensBefore, ScOrder}
-use Rattle.model.specs.Run.{State, threadOf, Access, writing, startsWithUpdate, Allowed}
-use Rattle.model.specs.Witness.{Stale, Witness}
+use Rattle.model.specs.Run.{State, threadOf, writing, startsWithUpdate, Allowed}
+use Rattle.model.specs.Witness.{Witness}
 use Rattle.model.specs.Readable.{Readable}
 use Rattle.model.proofs.Decidable.{dec-happens-reaches, dec-sc-order}
 
@@ -104,9 +105,16 @@ module _ (p : Program) (s : State) (t : ℕ) (kind : Kind) (x u : ℕ) where
       go (inl q) = no (λ k. snoc-not-nil (k .between) (k .newest) (sym q ∙ k .last))
       go (inr r) =
           dec-map
-          (λ h. record { between = r .front; newest = r .final; last = r .whole; event = h .0; own = h .1; known = h .2 })
-          (λ k. (k .event, k .own, subst (λ v. ScOrder (s .graph) v (k .event)) (same-last (k .between) (r .front) (k .newest) (r .final) (sym (k .last) ∙ r .whole) .1) (k .known)))
-          (dec-some {P = λ e. ScOrder (s .graph) (r .final) e} (dec-sc-order (s .graph) (r .final)) (threadEvents (s .graph) t))
+          (λ h. record
+          { between = r .front; newest = r .final; last = r .whole; event = h .0; own = h .1; known = h .2 })
+          (λ k. (
+            k .event,
+            k .own,
+            subst (λ v. ScOrder (s .graph) v (k .event))
+                (same-last (k .between) (r .front) (k .newest) (r .final) (sym (k .last) ∙ r .whole) .1) (k .known),
+          ))
+          (dec-some {P = λ e. ScOrder (s .graph) (r .final) e} (dec-sc-order (s .graph) (r .final))
+          (threadEvents (s .graph) t))
 
   -- What an access with effects f does as a witness of this kind and value, by the write that it picks.
   record Does (f : ℕ → Option Effect) (w : Id) (after : List Id) : Type 0 where
@@ -124,11 +132,15 @@ module _ (p : Program) (s : State) (t : ℕ) (kind : Kind) (x u : ℕ) where
       go none q = no (λ h. let z : _≡_ {A = ℕ} 0 1 = cc (h .allows) in omega arith)
       go (some e) q =
           dec-map
-          (λ h. record { effect = e; allows = q; allowed = h .0; known = h .1 .0; ofKind = h .1 .1 .0; ofValue = h .1 .1 .1 })
-          (λ h. let same : h .effect ≡ e = cc (h .allows) in
-          (subst (λ (c : Effect). Allowed p (s .graph) t (c .action) after) same (h .allowed), (h .known, (ap (λ (c : Effect). kindOf (c .action)) (sym same) ∙ h .ofKind, h .ofValue))))
+          (λ h. record
+          { effect = e; allows = q; allowed = h .0; known = h .1 .0; ofKind = h .1 .1 .0; ofValue = h .1 .1 .1 })
+          (λ h. let same : h .effect ≡ e = cc (h .allows) in (
+            subst (λ (c : Effect). Allowed p (s .graph) t (c .action) after) same (h .allowed),
+            (h .known, (ap (λ (c : Effect). kindOf (c .action)) (sym same) ∙ h .ofKind, h .ofValue)),
+          ))
           (dec-and (dec-allowed p (s .graph) t (e .action) after)
-          (dec-and (dec-known after) (dec-and (dec-kind (kindOf (e .action)) kind) (ℕ-discrete (valueOf (s .graph) w) u))))
+          (dec-and (dec-known after)
+          (dec-and (dec-kind (kindOf (e .action)) kind) (ℕ-discrete (valueOf (s .graph) w) u))))
 
   pub dec-witness : Dec (Witness p s t kind x u)
   dec-witness = go (nextLine p t (threadOf s t)) refl
@@ -160,7 +172,8 @@ module _ (p : Program) (s : State) (t : ℕ) (kind : Kind) (x u : ℕ) where
             ofValue = d .ofValue;
           }
 
-      out : (w : Witness p s t kind x u) → (w .access .location ≡ x) × SplitAt (Does (w .access .effects)) (order (s .graph) (w .access .location))
+      out : (w : Witness p s t kind x u)
+          → (w .access .location ≡ x) × SplitAt (Does (w .access .effects)) (order (s .graph) (w .access .location))
       out w = (
         w .ofLocation,
         record {
@@ -191,11 +204,13 @@ module _ (p : Program) (s : State) (t : ℕ) (kind : Kind) (x u : ℕ) where
       go : (l : NextLine) → nextLine p t (threadOf s t) ≡ l → Dec (Witness p s t kind x u)
       go ended q = no (λ w. let z : _≡_ {A = ℕ} 0 1 = cc (w .access .line) in omega arith)
       go (local r) q = no (λ w. let z : _≡_ {A = ℕ} 0 1 = cc (w .access .line) in omega arith)
-      go (access y f) q = dec-map (into q) back (dec-and (ℕ-discrete y x) (dec-split (Does f) (dec-does f) (order (s .graph) y)))
+      go (access y f) q =
+          dec-map (into q) back (dec-and (ℕ-discrete y x) (dec-split (Does f) (dec-does f) (order (s .graph) y)))
         where
           back : Witness p s t kind x u → (y ≡ x) × SplitAt (Does f) (order (s .graph) y)
           back w =
               let qy : w .access .location ≡ y = cc (w .access .line) in
               let qf : w .access .effects ≡ f = cc (w .access .line) in
               subst (λ z. (z ≡ x) × SplitAt (Does f) (order (s .graph) z)) qy
-              (subst (λ h. (w .access .location ≡ x) × SplitAt (Does h) (order (s .graph) (w .access .location))) qf (out w))
+              (subst (λ h. (w .access .location ≡ x) × SplitAt (Does h) (order (s .graph) (w .access .location))) qf
+              (out w))

@@ -8,7 +8,7 @@ use native.Mathlib.Decide.{decLt}
 use lib.ListN.{length, getElem?, set, length-set, length-map, List·getD-eq-default}
 use Rattle.relations.proofs.Lists.{same-last}
 use Rattle.model.specs.Program.{Program, Line}
-use Rattle.model.specs.Thread.{ThreadState, startThread, Action, Effect, NextLine, ended, local, access, doesAt}
+use Rattle.model.specs.Thread.{ThreadState, startThread, Action, Effect, NextLine, ended, access, doesAt}
 use Rattle.model.specs.Thread.{nextLine}
 use Rattle.model.specs.Graph.{Id, Graph, order, valueOf, nextId, eventOf, directlyAfter, extend}
 use Rattle.model.specs.Order.{ScOrder}

@@ -10,7 +10,7 @@ use native.Mathlib.Omega.{arith}
 use lib.ListN.{length}
 use Rattle.relations.specs.Closure.{Precedes}
 use Rattle.model.specs.Thread.{Action, reads, writes, updates}
-use Rattle.model.specs.Graph.{Id, start, event, Event, readE, writeE, updateE, Graph, order, eventAt, locationOf}
+use Rattle.model.specs.Graph.{Id, start, Event, readE, writeE, updateE, Graph, order, eventAt, locationOf}
 use Rattle.model.specs.Graph.{sourceOf, nextId, eventOf}
 use Rattle.model.specs.Run.{writing}
 use Rattle.model.proofs.Lookup.{same-locations, present-not-next}

@@ -44,7 +44,8 @@ dec-some {A} {P} d (b ∷ l) = dec-map into out (dec-or (d b) (dec-some d l))
     out h = ⊎-elim (λ q. inl (subst P q (h .2))) (λ m. inr (h .0, m, h .2)) (List·Memᴰ·cases-cons (h .1))
 
 -- No member of the list has the property.
-pub dec-none : {A : Type 0} {P : A → Type 0} → ((a : A) → Dec (P a)) → (l : List A) → Dec ((a : A) → Member a l → P a → ⊥)
+pub dec-none : {A : Type 0} {P : A → Type 0} → ((a : A) → Dec (P a)) → (l : List A)
+    → Dec ((a : A) → Member a l → P a → ⊥)
 dec-none d l =
     dec-map (λ n a m h. n (a, m, h)) (λ n h. n (h .0) (h .1) (h .2)) (dec-not (dec-some d l))
 
@@ -71,7 +72,14 @@ module _ {A : Type 0} (P : A → List A → Type 0) where
   split-of-cases : {a : A} {l : List A} → P a l ⊎ SplitAt P l → SplitAt P (a ∷ l)
   split-of-cases {a} {l} (inl h) = record { before = []; chosen = a; after = l; whole = refl; holds = h }
   split-of-cases {a} {l} (inr s) =
-      record { before = a ∷ s .before; chosen = s .chosen; after = s .after; whole = ap (λ m. a ∷ m) (s .whole); holds = s .holds }
+      record {
+        before = a ∷ s .before;
+        chosen = s .chosen;
+        after = s .after;
+        whole = ap (λ m. a ∷ m)
+            (s .whole);
+        holds = s .holds;
+      }
 
   pub dec-split : ((a : A) (l : List A) → Dec (P a l)) → (l : List A) → Dec (SplitAt P l)
   dec-split d [] = no (λ s. no-split (s .before) (s .chosen) (s .after) (s .whole))

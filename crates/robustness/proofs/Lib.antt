@@ -7,3 +7,4 @@ pub mod Diamond
 pub mod Rotate
 pub mod Push
 pub mod Robust
+pub mod StoreBuffering
