@@ -45,7 +45,7 @@ row-of-below f d (suc n) i h =
 module _ (p : Program) where
   pub start-locations : length (startGraph p .orders) ≡ p .locations
   unfolding startGraph
-  start-locations = length-map (below (p .locations)) (λ x. start x ∷ []) ∙ length-below (p .locations)
+  start-locations = length-map (below (p .locations)) _ ∙ length-below (p .locations)
 
   pub start-threads : length (startGraph p .events) ≡ length (p .threads)
   unfolding startGraph
