@@ -11,7 +11,7 @@ use Rattle.relations.specs.Closure.{Precedes, edge}
 use Rattle.relations.proofs.Lists.{precedes-after, precedes-put-in, member-put-in, length-of-snoc}
 use Rattle.model.specs.Thread.{Action, reads, writes, updates}
 use Rattle.model.specs.Graph.{Id, Graph, eventsOf, order, sourceOf, eventOf, threadEvents}
-use Rattle.model.specs.Order.{ThreadOrder, within, ReadsFrom, ModificationOrder, at, readsFrom, ScEdge}
+use Rattle.model.specs.Order.{ThreadOrder, threadOrder, within, ReadsFrom, ModificationOrder, at, readsFrom, ScEdge}
 use Rattle.model.specs.Order.{happensBefore, modificationOrder, fromRead}
 use Rattle.model.specs.Run.{writing}
 use Rattle.model.proofs.Lookup.{place-of-own, own-events}
@@ -19,6 +19,13 @@ use Rattle.model.proofs.Growth.{Addition, newId, newEvent, newOrder, gr
 use Rattle.model.proofs.Growth.{order-written, writing-cases}
 use Rattle.model.proofs.Growth.{new-there, precedes-stays}
 use Rattle.model.proofs.WellFormed.{WellFormed, listed-not-next}
+
+-- Thread order and reads-from lie in SC order.
+pub thread-order-in-sc : {g : Graph} {a b : Id} → ThreadOrder g a b → ScEdge g a b
+thread-order-in-sc h = happensBefore (edge (threadOrder h))
+
+pub reads-from-in-sc : {g : Graph} (a b : Id) → ReadsFrom g a b → ScEdge g a b
+reads-from-in-sc a b h = happensBefore (edge (readsFrom h))
 
 -- An access that does not write reads.
 pub unwriting-reads : (a : Action) (x u : ℕ) (w : Id) → writing a ≡ false → sourceOf (some (eventOf a x u w)) ≡ some w
@@ -51,7 +58,7 @@ module _ {g : Graph} (d : Addition g) where
 
   pub picked-before-new : ScEdge (grown d) (d .picked) (newId d)
   picked-before-new =
-      ⊎-elim (λ w. modificationOrder (picked-listed-first w)) (λ w. happensBefore (edge (readsFrom (picked-read w))))
+      ⊎-elim (λ w. modificationOrder (picked-listed-first w)) (λ w. reads-from-in-sc (d .picked) (newId d) (picked-read w))
       (writing-cases (d .action))
 
 -- and before what stood after the write that it picked.

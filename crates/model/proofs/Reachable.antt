@@ -6,12 +6,14 @@ use Prim.Native.Nat.{ℕ, _<_}
 use native.Mathlib.Omega.{arith}
 use native.Mathlib.Decide.{decLt}
 use lib.ListN.{length, getElem?, set, length-set, length-map, List·getD-eq-default}
-use Rattle.relations.proofs.Lists.{same-last}
+use Rattle.relations.specs.Closure.{further, Precedes}
+use Rattle.relations.proofs.Lists.{same-last, one-precedes}
+use mathlib.Core.Logic.{⊎-elim}
 use Rattle.model.specs.Program.{Program, Line}
 use Rattle.model.specs.Thread.{ThreadState, startThread, Action, Effect, NextLine, ended, access, doesAt}
 use Rattle.model.specs.Thread.{nextLine}
 use Rattle.model.specs.Graph.{Id, Graph, order, valueOf, nextId, eventOf, directlyAfter, extend}
-use Rattle.model.specs.Order.{ScOrder}
+use Rattle.model.specs.Order.{at, modificationOrder, ScOrder}
 use Rattle.model.specs.Run.{State, startState, threadOf, Access, graphAfter, stateAfter, afterLocal, Rule}
 use Rattle.model.specs.Run.{Allowed, startsWithUpdate}
 use Rattle.model.specs.Run.{Step, localStep, accessStep, Run, noStep, andStep, ScStep, RaStep, ScRun, RaRun}
@@ -121,6 +123,15 @@ pub sc-order-acyclic : {p : Program} {schedule : List ℕ} {s : State} → ScRun
 unfolding startState
 sc-order-acyclic {p} noStep a h = start-acyclic p a a h
 sc-order-acyclic (andStep r k) a h = step-acyclic (run-good r) k (λ b w. sc-order-acyclic r b w) a h
+
+-- Of two writes in one modification order the SC-earlier stands first.
+pub sc-earlier-stands-first : {p : Program} {schedule : List ℕ} {s : State} → ScRun p schedule s → (x : ℕ) {a b : Id}
+    → Member a (order (s .graph) x) → Member b (order (s .graph) x) → ScOrder (s .graph) a b
+    → Precedes a b (order (s .graph) x)
+sc-earlier-stands-first {s = s} r x {a} {b} m n h =
+    ⊎-elim (λ q. absurd (sc-order-acyclic r b (subst (λ c. ScOrder (s .graph) c b) q h)))
+    (⊎-elim (λ w. w) (λ w. absurd (sc-order-acyclic r a (further h (modificationOrder (at x w))))))
+    (one-precedes (order (s .graph) x) m n)
 
 -- "an SC step is also the release/acquire step that picks the newest write"
 pub newest-allowed : (p : Program) (g : Graph) (t : ℕ) (action : Action) (after : List Id) → after ≡ []

@@ -161,6 +161,18 @@ module _ {A : Type 0} where
   precedes-put-in (c ∷ l) b m h =
       ⊎-elim (λ q. here q (member-put-in l b m)) (λ p. later (precedes-put-in l b m p)) (List·Memᴰ·cases-cons h)
 
+  -- Of two members one stands before the other, or they are one.
+  pub one-precedes : (l : List A) {a b : A} → Member a l → Member b l → (a ≡ b) ⊎ (Precedes a b l ⊎ Precedes b a l)
+  one-precedes [] m n = absurd (List·Memᴰ·not-nil m)
+  one-precedes (c ∷ l) {a} {b} m n = go (List·Memᴰ·cases-cons m) (List·Memᴰ·cases-cons n) (λ h k. one-precedes l h k)
+    where
+      go : (a ≡ c) ⊎ Member a l → (b ≡ c) ⊎ Member b l → (Member a l → Member b l → (a ≡ b) ⊎ (Precedes a b l ⊎ Precedes b a l))
+          → (a ≡ b) ⊎ (Precedes a b (c ∷ l) ⊎ Precedes b a (c ∷ l))
+      go (inl q) (inl r) rest = inl (q ∙ sym r)
+      go (inl q) (inr k) rest = inr (inl (here q k))
+      go (inr h) (inl r) rest = inr (inr (here r h))
+      go (inr h) (inr k) rest = ⊎-elim inl (λ w. inr (⊎-elim (λ z. inl (later z)) (λ z. inr (later z)) w)) (rest h k)
+
   pub member-of-flat : (ls : List (List A)) {a : A} {l : List A} → Member a l → Member l ls → Member a (flatten ls)
   unfolding flatten
   member-of-flat [] h k = absurd (List·Memᴰ·not-nil k)

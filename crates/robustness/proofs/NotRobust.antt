@@ -8,11 +8,11 @@ use Rattle.relations.proofs.Lists.{same-last, regroup-snoc, member-put-in}
 use Rattle.model.specs.Program.{Program}
 use Rattle.model.specs.Thread.{Kind}
 use Rattle.model.specs.Graph.{Id, order}
-use Rattle.model.specs.Order.{threadOrder, happensBefore, ScOrder}
+use Rattle.model.specs.Order.{ScOrder}
 use Rattle.model.specs.Run.{State, Access, graphAfter, accessStep, andStep, ScRun}
 use Rattle.model.specs.Witness.{Stale, Witness, BeyondSc, NotRobust}
 use Rattle.model.proofs.Growth.{Addition, newId, grown, sc-order-grows}
-use Rattle.model.proofs.NewEdges.{own-before-new, new-before-later}
+use Rattle.model.proofs.NewEdges.{thread-order-in-sc, own-before-new, new-before-later}
 use Rattle.model.proofs.Reachable.{Good, additionOf, graph-grown, run-good, sc-order-acyclic, sc-run-is-ra-run}
 use Rattle.model.proofs.Reachable.{same-location}
 
@@ -54,7 +54,7 @@ module _ {p : Program} {schedule : List ℕ} {s : State} {t : ℕ} {kind : Kind}
       cycle : ScOrder (grown d) (newId d) (newId d)
       cycle =
           closure-joins (edge (new-before-later (f .wellFormed) d there))
-          (further (sc-order-grows d known) (happensBefore (edge (threadOrder (own-before-new d (w .own))))))
+          (further (sc-order-grows d known) (thread-order-in-sc (own-before-new d (w .own))))
 
   -- NR.
   pub witness-not-robust : NotRobust p schedule t kind x u

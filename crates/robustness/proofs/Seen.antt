@@ -11,7 +11,7 @@ use Rattle.relations.proofs.Laws.{before-joins}
 use Rattle.relations.proofs.Lists.{same-last}
 use Rattle.model.specs.Program.{Program}
 use Rattle.model.specs.Graph.{Id, event, Graph, eventsOf, order, threadEvents}
-use Rattle.model.specs.Order.{HappensBefore, threadOrder, happensBefore, fromRead, ScEdge, ScOrder, ModificationOrder}
+use Rattle.model.specs.Order.{HappensBefore, fromRead, ScEdge, ScOrder, ModificationOrder}
 use Rattle.model.specs.Run.{State, graphAfter, stateAfter, afterLocal, writing, Rule, Step, localStep, accessStep}
 use Rattle.model.proofs.Lookup.{own-event, place-of-own, more-events, new-own-event}
 use Rattle.model.proofs.Growth.{Addition, newId, newEvent, newOrder, grown, upToPicked, order-here, order-written}
@@ -19,7 +19,7 @@ use Rattle.model.proofs.Growth.{order-unwritten}
 use Rattle.model.proofs.Growth.{happens-before-grows, sc-order-grows, reads-from-grows}
 use Rattle.model.proofs.WellFormed.{WellFormed}
 use Rattle.model.proofs.Sinks.{place-old-or-new}
-use Rattle.model.proofs.NewEdges.{own-before-new, picked-before-new, picked-listed-first, picked-read}
+use Rattle.model.proofs.NewEdges.{thread-order-in-sc, own-before-new, picked-before-new, picked-listed-first, picked-read}
 use Rattle.model.proofs.Reachable.{Good, additionOf}
 
 -- v is, or comes in SC order before, an event of thread t.
@@ -64,7 +64,7 @@ module _ {g : Graph} (d : Addition g) where
       let r = place-of-own (grown d) (d .thread) (h .listed) in
       ⊎-elim (λ q. subst (IsOrBefore (ScOrder (grown d)) v) (r .2 ∙ q) (h .way))
       (λ l. inr
-      (before-joins (h .way) (edge (happensBefore (edge (threadOrder (own-before-new d (own (r .0) (r .2) l))))))))
+      (before-joins (h .way) (edge (thread-order-in-sc (own-before-new d (own (r .0) (r .2) l))))))
       (place-old-or-new f d (d .thread) (r .0) (r .1))
     where
       own : (i : ℕ) {a : Id} → a ≡ event (d .thread) i → i < length (eventsOf g (d .thread))
