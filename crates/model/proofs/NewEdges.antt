@@ -11,7 +11,8 @@ use Rattle.relations.specs.Closure.{Precedes, edge}
 use Rattle.relations.proofs.Lists.{precedes-after, precedes-put-in, member-put-in, length-of-snoc}
 use Rattle.model.specs.Thread.{Action, reads, writes, updates}
 use Rattle.model.specs.Graph.{Id, Graph, eventsOf, order, sourceOf, eventOf, threadEvents}
-use Rattle.model.specs.Order.{ThreadOrder, threadOrder, within, ReadsFrom, ModificationOrder, at, readsFrom, ScEdge}
+use Rattle.model.specs.Order.{ThreadOrder, threadOrder, within, ReadsFrom, ModificationOrder, at, readsFrom}
+use Rattle.model.specs.Order.{ScEdge}
 use Rattle.model.specs.Order.{happensBefore, modificationOrder, fromRead}
 use Rattle.model.specs.Run.{writing}
 use Rattle.model.proofs.Lookup.{place-of-own, own-events}
@@ -58,7 +59,8 @@ module _ {g : Graph} (d : Addition g) where
 
   pub picked-before-new : ScEdge (grown d) (d .picked) (newId d)
   picked-before-new =
-      ⊎-elim (λ w. modificationOrder (picked-listed-first w)) (λ w. reads-from-in-sc (d .picked) (newId d) (picked-read w))
+      ⊎-elim (λ w. modificationOrder (picked-listed-first w))
+      (λ w. reads-from-in-sc (d .picked) (newId d) (picked-read w))
       (writing-cases (d .action))
 
 -- and before what stood after the write that it picked.

@@ -2,3 +2,4 @@ pub mod Laws
 pub mod Sink
 pub mod Decide
 pub mod Lists
+pub mod FlatMap

@@ -166,12 +166,28 @@ module _ {A : Type 0} where
   one-precedes [] m n = absurd (List·Memᴰ·not-nil m)
   one-precedes (c ∷ l) {a} {b} m n = go (List·Memᴰ·cases-cons m) (List·Memᴰ·cases-cons n) (λ h k. one-precedes l h k)
     where
-      go : (a ≡ c) ⊎ Member a l → (b ≡ c) ⊎ Member b l → (Member a l → Member b l → (a ≡ b) ⊎ (Precedes a b l ⊎ Precedes b a l))
+      go : (a ≡ c) ⊎ Member a l → (b ≡ c) ⊎ Member b l
+          → (Member a l → Member b l → (a ≡ b) ⊎ (Precedes a b l ⊎ Precedes b a l))
           → (a ≡ b) ⊎ (Precedes a b (c ∷ l) ⊎ Precedes b a (c ∷ l))
       go (inl q) (inl r) rest = inl (q ∙ sym r)
       go (inl q) (inr k) rest = inr (inl (here q k))
       go (inr h) (inl r) rest = inr (inr (here r h))
       go (inr h) (inr k) rest = ⊎-elim inl (λ w. inr (⊎-elim (λ z. inl (later z)) (λ z. inr (later z)) w)) (rest h k)
+
+  pub precedes-append-cases : (l m : List A) {a b : A} → Precedes a b (l ++ m)
+      → Precedes a b l ⊎ (Precedes a b m ⊎ (Member a l × Member b m))
+  precedes-append-cases [] m h = inr (inl h)
+  precedes-append-cases (c ∷ l) m {a} {b} h = go (precedes-cases h) (λ k. precedes-append-cases l m k)
+    where
+      go : ((a ≡ c) × Member b (l ++ m)) ⊎ Precedes a b (l ++ m)
+          → (Precedes a b (l ++ m) → Precedes a b l ⊎ (Precedes a b m ⊎ (Member a l × Member b m)))
+          → Precedes a b (c ∷ l) ⊎ (Precedes a b m ⊎ (Member a (c ∷ l) × Member b m))
+      go (inl q) rest =
+          ⊎-elim (λ k. inl (here (q .0) k)) (λ k. inr (inr (List·Memᴰ·head (q .0), k)))
+          (List·Memᴰ·append-cases l (q .1))
+      go (inr k) rest =
+          ⊎-elim (λ z. inl (later z)) (⊎-elim (λ z. inr (inl z)) (λ z. inr (inr (List·Memᴰ·tail (z .0), z .1))))
+          (rest k)
 
   pub member-of-flat : (ls : List (List A)) {a : A} {l : List A} → Member a l → Member l ls → Member a (flatten ls)
   unfolding flatten

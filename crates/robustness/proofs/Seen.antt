@@ -19,7 +19,8 @@ use Rattle.model.proofs.Growth.{order-unwritten}
 use Rattle.model.proofs.Growth.{happens-before-grows, sc-order-grows, reads-from-grows}
 use Rattle.model.proofs.WellFormed.{WellFormed}
 use Rattle.model.proofs.Sinks.{place-old-or-new}
-use Rattle.model.proofs.NewEdges.{thread-order-in-sc, own-before-new, picked-before-new, picked-listed-first, picked-read}
+use Rattle.model.proofs.NewEdges.{thread-order-in-sc, own-before-new, picked-before-new, picked-listed-first}
+use Rattle.model.proofs.NewEdges.{picked-read}
 use Rattle.model.proofs.Reachable.{Good, additionOf}
 
 -- v is, or comes in SC order before, an event of thread t.
