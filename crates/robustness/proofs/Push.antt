@@ -111,8 +111,8 @@ module _ {p : Program} {s : State} {q t : ℕ} (f : Good p s) (n : q ≢ t) wher
         ⊎-elim (λ e. absurd (snoc-not-nil (stale .front) (stale .final) (sym (e .0) ∙ stale .whole)))
         (λ e. go (e .0) (e .1) (e .2))
         (split-of-snoc (b .before) (b .picked) (b .after) (upToPicked d) (newId d)
-        (sym (b .split) ∙ ap (order (graphAfter a)) (sym k) ∙ order-here d ∙ order-written d w ∙ ap
-        (λ l. upToPicked d ++ newId d ∷ l) newest))
+        (sym (b .split) ∙ ap (order (graphAfter a)) (sym k) ∙ order-here d ∙ order-written d w
+        ∙ ap (λ l. upToPicked d ++ newId d ∷ l) newest))
       where
         go : (earlier : List Id) → b .after ≡ earlier ++ newId d ∷ []
             → b .before ++ b .picked ∷ earlier ≡ upToPicked d → Pushed p q t s (stateAfter a) b
@@ -123,8 +123,8 @@ module _ {p : Program} {s : State} {q t : ℕ} (f : Good p s) (n : q ≢ t) wher
           where
             split : order (s .graph) (b .location) ≡ b .before ++ b .picked ∷ earlier
             split =
-                ap (order (s .graph)) (sym k) ∙ old-order d ∙ ap (λ l. upToPicked d ++ l) newest ∙ append-nil
-                (upToPicked d) ∙ sym o
+                ap (order (s .graph)) (sym k) ∙ old-order d ∙ ap (λ l. upToPicked d ++ l) newest
+                ∙ append-nil (upToPicked d) ∙ sym o
 
             rest : b .after ≡ earlier ++ directlyAfter (a .effect .action) (nextId (s .graph) q) []
             rest = e ∙ ap (λ l. earlier ++ l) (sym (written (a .effect .action) (nextId (s .graph) q) [] w))
@@ -134,8 +134,8 @@ module _ {p : Program} {s : State} {q t : ℕ} (f : Good p s) (n : q ≢ t) wher
                 (some (eventOf (a .effect .action) (a .location) (valueOf (s .graph) (a .picked)) (a .picked)))
                 ≡ false
             no-update z w′ =
-                ap isUpdate (sym (new-there d)) ∙ sym
-                (ap (startsWithUpdate (graphAfter a)) (e ∙ ap (λ l. l ++ newId d ∷ []) z)) ∙ ok .unfollowed w′
+                ap isUpdate (sym (new-there d))
+                ∙ sym (ap (startsWithUpdate (graphAfter a)) (e ∙ ap (λ l. l ++ newId d ∷ []) z)) ∙ ok .unfollowed w′
 
             same : (earlier ≡ []) ⊎ Snoc earlier → (writing (b .effect .action) ≡ true)
                 ⊎ (writing (b .effect .action) ≡ false) → SameThere f a newest b n earlier

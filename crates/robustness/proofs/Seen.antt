@@ -87,8 +87,8 @@ module _ {g : Graph} (d : Addition g) (e : Addition (grown d)) (newest : d .afte
   picks-new w =
       sym
       (same-last (upToPicked d) (e .before) (newId d) (e .picked)
-      (ap (λ l. upToPicked d ++ newId d ∷ l) (sym newest) ∙ sym (order-here d ∙ order-written d w) ∙ ap
-      (order (grown d)) same ∙ e .split
+      (ap (λ l. upToPicked d ++ newId d ∷ l) (sym newest) ∙ sym (order-here d ∙ order-written d w)
+      ∙ ap (order (grown d)) same ∙ e .split
       ∙ ap (λ l. e .before ++ e .picked ∷ l) last) .1)
 
   picks-same : writing (d .action) ≡ false → e .picked ≡ d .picked

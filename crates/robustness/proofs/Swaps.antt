@@ -56,13 +56,12 @@ module _ {p : Program} {s : State} {q t : ℕ} (f : Good p s) (a : Access p s q)
             (value-kept (b .after) (split-elsewhere k));
         sameOrders =
             set-comm (s .graph .orders) (b .location) (a .location) _ _ (λ j. k (sym j))
-            ∙ ap
-            (λ l. set
-            (set (s .graph .orders) (a .location)
-            (a .before ++ a .picked ∷ directlyAfter (a .effect .action) (nextId (s .graph) q) l)) (b .location) there)
-            (sym newest);
+            ∙ ap (λ l. set (set (s .graph .orders) (a .location) (placed l)) (b .location) there) (sym newest);
       }
     where
+      placed : List Id → List Id
+      placed l = a .before ++ a .picked ∷ directlyAfter (a .effect .action) (nextId (s .graph) q) l
+
       there : List Id
       there = b .before ++ b .picked ∷ directlyAfter (b .effect .action) (nextId (s .graph) t) (b .after)
 
@@ -71,8 +70,8 @@ module _ {p : Program} {s : State} {q t : ℕ} (f : Good p s) (a : Access p s q)
       → order (s .graph) (b .location) ≡ b .before ++ b .picked ∷ b .after
   unfolding stateAfter graphAfter
   split-unwritten k w =
-      ap (order (s .graph)) (sym k) ∙ sym (order-here (additionOf f a) ∙ order-unwritten (additionOf f a) w) ∙ ap
-      (order (graphAfter a)) k ∙ b .split
+      ap (order (s .graph)) (sym k) ∙ sym (order-here (additionOf f a) ∙ order-unwritten (additionOf f a) w)
+      ∙ ap (order (graphAfter a)) k ∙ b .split
 
   pub rest-unwritten : writing (a .effect .action) ≡ false → (l : List Id)
       → l ≡ l ++ directlyAfter (a .effect .action) (nextId (s .graph) q) []
@@ -154,8 +153,8 @@ module _ {p : Program} {s : State} {q t : ℕ} (f : Good p s) (a : Access p s q)
               (valueOf here (r .final)) (a .line) (a .allows) (z .1)) (r .same);
           sameEvent =
               ⊎-elim
-              (λ z. ap (λ w. eventOf (a .effect .action) (a .location) (valueOf here w) w) z ∙ ap
-              (λ u. eventOf (a .effect .action) (a .location) u (a .picked)) (value-kept earlier split))
+              (λ z. ap (λ w. eventOf (a .effect .action) (a .location) (valueOf here w) w) z
+              ∙ ap (λ u. eventOf (a .effect .action) (a .location) u (a .picked)) (value-kept earlier split))
               (λ z. same-event (valueOf here (r .final)) (valueOf (s .graph) (a .picked)) (r .final) (a .picked)
               (z .0) (z .1)) (r .same);
           sameOrders =
