@@ -1,1 +1,7 @@
 pub mod Program
+pub mod Thread
+pub mod Graph
+pub mod Order
+pub mod Run
+pub mod Witness
+pub mod Readable

@@ -1,0 +1,5 @@
+pub mod Laws
+pub mod Sink
+pub mod Decide
+pub mod Lists
+pub mod FlatMap

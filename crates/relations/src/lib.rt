@@ -1,0 +1,1 @@
+// No code: transitive closure of a relation, and its laws.

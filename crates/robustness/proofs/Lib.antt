@@ -1,0 +1,10 @@
+pub mod NotRobust
+pub mod Seen
+pub mod Exchange
+pub mod PlainWrite
+pub mod Swaps
+pub mod Diamond
+pub mod Rotate
+pub mod Push
+pub mod Robust
+pub mod StoreBuffering

@@ -1,0 +1,4 @@
+pub mod Reached
+pub mod Bounds
+pub mod Bounded
+pub mod Named

@@ -1,0 +1,3 @@
+pub mod Situation
+pub mod Schedule
+pub mod Verdict
