@@ -5,7 +5,7 @@ use mathlib.Core.Path.{_≡_, refl, ap, sym, _∙_}
 use mathlib.Core.List.{List, [], map}
 use lib.ListN.{length, getD, replicate, length-map, List·getD-map}
 use Rattle.limits.specs.Limits.{maxThreads}
-use Rattle.model.specs.Program.{Line, Program, linesOf}
+use Rattle.program.specs.Program.{Line, Program, linesOf}
 use Rattle.program_bytes.specs.Outcome.{Outcome}
 use Rattle.program_bytes.specs.Outcome.Outcome.{refused, accepted}
 use Rattle.program_bytes.specs.Spelling.{Within}

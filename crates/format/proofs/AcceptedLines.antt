@@ -7,9 +7,9 @@ use mathlib.Core.List.{List, [], _∷_, _++_}
 use lib.ListN.{length, getD, drop, replicate, length-replicate, List·getD-append}
 use lib.Seq.{sets, sets-eq, getD-drop}
 use Rattle.limits.specs.Limits.{maxThreads}
-use Rattle.model.specs.Program.{Line, Program, linesOf}
-use Rattle.model.specs.Program.Operand.{constant}
-use Rattle.model.specs.Program.Line.{wait}
+use Rattle.program.specs.Program.{Line, Program, linesOf}
+use Rattle.program.specs.Program.Operand.{constant}
+use Rattle.program.specs.Program.Line.{wait}
 use Rattle.program_bytes.specs.Outcome.Outcome.{accepted}
 use Rattle.program_bytes.specs.Ops.{opAt}
 use Rattle.program_bytes.specs.Format.{sizePR, sizeIN, operand, readProgram, programOf}

@@ -9,7 +9,7 @@ use lib.ListN.{length, drop, set, length-drop}
 use lib.Seq.{sets, drop-drop}
 use lib.Dec.{eqb}
 use borrow.Author.Tests.{eq-eqb, ne-eqb}
-use Rattle.model.specs.Program.{Line, Program}
+use Rattle.program.specs.Program.{Line, Program}
 use Rattle.program_bytes.specs.Outcome.{Outcome, check, andThen}
 use Rattle.program_bytes.specs.Outcome.Outcome.{refused, accepted}
 use Rattle.program_bytes.specs.Format.{sizePR, sizeTH, sizeIN, readThread, readThreads, endsAfter}

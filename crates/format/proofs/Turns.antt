@@ -8,7 +8,7 @@ use lib.ListN.{length, getD, drop, length-drop}
 use borrow.Author.Tests.{le-leb}
 use Rattle.limits.specs.Limits.{maxLines}
 use lib.Seq.{drop-drop, getD-drop}
-use Rattle.model.specs.Program.{Line}
+use Rattle.program.specs.Program.{Line}
 use Rattle.program_bytes.specs.Outcome.{Outcome, check, andThen}
 use Rattle.program_bytes.specs.Outcome.Outcome.{refused, accepted}
 use Rattle.program_bytes.specs.Format.{isRecord, markIN, markTH, sizeIN, sizeTH, fieldsToLine, readLine, readLines, readThread}

@@ -6,9 +6,9 @@ use mathlib.Core.List.{List, [], _∷_, map}
 use lib.ListN.{length, getD, replicate}
 use lib.Seq.{sets}
 use Rattle.limits.specs.Limits.{maxThreads}
-use Rattle.model.specs.Program.{Operand as ModelOperand, Line as ModelLine, Program}
-use Rattle.model.specs.Program.Operand.{constant, register}
-use Rattle.model.specs.Program.Line.{sum, equal, less, jump, write, read, fadd, cas, wait, bcas}
+use Rattle.program.specs.Program.{Operand as ModelOperand, Line as ModelLine, Program}
+use Rattle.program.specs.Program.Operand.{constant, register}
+use Rattle.program.specs.Program.Line.{sum, equal, less, jump, write, read, fadd, cas, wait, bcas}
 use Rattle.program_bytes.specs.Outcome.{Outcome}
 use Rattle.program_bytes.specs.Outcome.Outcome.{refused, accepted}
 use Rattle.program_bytes.specs.Ops.{Op, Target as OpTarget}

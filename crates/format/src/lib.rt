@@ -11,7 +11,7 @@ use threads::read_threads;
 ghost use mathlib.Core.Path.{_≡_};
 ghost use Prim.Native.Nat.{_<_};
 ghost use lib.ListN.{length, getD};
-ghost use Rattle.model.specs.Program.{Line as ModelLine, linesOf};
+ghost use Rattle.program.specs.Program.{Line as ModelLine, linesOf};
 ghost use Rattle.program_bytes.specs.Format.{areInRange, readProgram, programOf};
 ghost use Rattle.format.specs.Answer.{noHeader, refusal, reading, Accepted, lineMeans};
 

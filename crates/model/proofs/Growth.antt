@@ -12,7 +12,7 @@ use Rattle.relations.proofs.Laws.{closure-grows}
 use Rattle.relations.proofs.Lists.{row-in-range, regroup-after, member-inserted, member-old-or-put-in}
 use Rattle.relations.proofs.Lists.{precedes-inserted}
 use Rattle.relations.proofs.Lists.{precedes-old-or-put-in, member-put-in}
-use Rattle.model.specs.Thread.{Action, reads, writes, updates}
+use Rattle.program.specs.Thread.{Action, reads, writes, updates}
 use Rattle.model.specs.Graph.{Id, Event, Graph, eventsOf, order, eventAt, sourceOf, valueOf}
 use Rattle.model.specs.Graph.{nextId, eventOf, directlyAfter, extend}
 use Rattle.model.specs.Order.{ThreadOrder, starting, within, ReadsFrom, ModificationOrder, at, FromRead}

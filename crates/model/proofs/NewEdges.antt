@@ -9,7 +9,7 @@ use native.Mathlib.Omega.{arith}
 use lib.ListN.{length}
 use Rattle.relations.specs.Closure.{Precedes, edge}
 use Rattle.relations.proofs.Lists.{precedes-after, precedes-put-in, member-put-in, length-of-snoc}
-use Rattle.model.specs.Thread.{Action, reads, writes, updates}
+use Rattle.program.specs.Thread.{Action, reads, writes, updates}
 use Rattle.model.specs.Graph.{Id, Graph, eventsOf, order, sourceOf, eventOf, threadEvents}
 use Rattle.model.specs.Order.{ThreadOrder, threadOrder, within, ReadsFrom, ModificationOrder, at, readsFrom}
 use Rattle.model.specs.Order.{ScEdge}

@@ -9,9 +9,9 @@ use lib.ListN.{length, getElem?, set, length-set, length-map, List·getD-eq-defa
 use Rattle.relations.specs.Closure.{further, Precedes}
 use Rattle.relations.proofs.Lists.{same-last, one-precedes}
 use mathlib.Core.Logic.{⊎-elim}
-use Rattle.model.specs.Program.{Program, Line}
-use Rattle.model.specs.Thread.{ThreadState, startThread, Action, Effect, NextLine, ended, access, doesAt}
-use Rattle.model.specs.Thread.{nextLine}
+use Rattle.program.specs.Program.{Program, Line}
+use Rattle.program.specs.Thread.{ThreadState, startThread, Action, Effect, NextLine, ended, access, doesAt}
+use Rattle.program.specs.Thread.{nextLine}
 use Rattle.model.specs.Graph.{Id, Graph, order, valueOf, nextId, eventOf, directlyAfter, extend}
 use Rattle.model.specs.Order.{at, modificationOrder, ScOrder}
 use Rattle.model.specs.Run.{State, startState, threadOf, Access, graphAfter, stateAfter, afterLocal, Rule}

@@ -12,7 +12,7 @@ use lib.Seq.{getD-at}
 use Rattle.relations.specs.Closure.{Precedes}
 use Rattle.relations.proofs.Decide.{precedes-cases, precedes-not-nil}
 use Rattle.relations.proofs.Lists.{length-of-snoc, place-in-range}
-use Rattle.model.specs.Program.{Program, Line}
+use Rattle.program.specs.Program.{Program, Line}
 use Rattle.model.specs.Graph.{Id, start, event, Event, writeE, eventsOf, order, eventAt, below, sourceOf}
 use Rattle.model.specs.Graph.{startGraph}
 use Rattle.relations.proofs.Laws.{first-edge}

@@ -9,7 +9,7 @@ use Prim.Native.Nat.{ℕ, _<_}
 use native.Mathlib.Omega.{arith}
 use lib.ListN.{length}
 use Rattle.relations.specs.Closure.{Precedes}
-use Rattle.model.specs.Thread.{Action, reads, writes, updates}
+use Rattle.program.specs.Thread.{Action, reads, writes, updates}
 use Rattle.model.specs.Graph.{Id, start, Event, readE, writeE, updateE, Graph, order, eventAt, locationOf}
 use Rattle.model.specs.Graph.{sourceOf, nextId, eventOf}
 use Rattle.model.specs.Run.{writing}

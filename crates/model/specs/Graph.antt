@@ -7,8 +7,8 @@ use mathlib.Core.List.{List, [], _∷_, _++_, map}
 use mathlib.Core.Option.{Option, none, some}
 use lib.Dec.{ltb}
 use lib.ListN.{length, getD, getElem?, set}
-use Rattle.model.specs.Program.{Program, Line}
-use Rattle.model.specs.Thread.{Action, reads, writes, updates}
+use Rattle.program.specs.Program.{Program, Line}
+use Rattle.program.specs.Thread.{Action, reads, writes, updates}
 
 -- "An event is known by its thread and its place in that thread's order, a starting write by its location." Threads
 -- and places are counted from 0.

@@ -1,5 +1,3 @@
-pub mod Program
-pub mod Thread
 pub mod Graph
 pub mod Order
 pub mod Run

@@ -2,8 +2,8 @@
 use Prim.Native.Nat.{ℕ}
 use mathlib.Core.Path.{_≡_}
 use mathlib.Core.List.{List, [], _∷_, _++_, List·Memᴰ as Member}
-use Rattle.model.specs.Program.{Program}
-use Rattle.model.specs.Thread.{Kind, kindOf}
+use Rattle.program.specs.Program.{Program}
+use Rattle.program.specs.Thread.{Kind, kindOf}
 use Rattle.model.specs.Graph.{Id, Graph, threadEvents, valueOf}
 use Rattle.model.specs.Order.{ScOrder}
 use Rattle.model.specs.Run.{State, Access, stateAfter, graphAfter, Allowed, ScRun, RaRun}

@@ -5,9 +5,9 @@ use mathlib.Core.Path.{_≡_, refl, ap, sym, _∙_}
 use mathlib.Core.List.{List}
 use lib.ListN.{length, getD}
 use borrow.Author.Tests.{lt-ltb, le-ltb}
-use Rattle.model.specs.Program.{Program, linesOf}
-use Rattle.model.specs.Program.Operand.{constant}
-use Rattle.model.specs.Program.Line.{wait}
+use Rattle.program.specs.Program.{Program, linesOf}
+use Rattle.program.specs.Program.Operand.{constant}
+use Rattle.program.specs.Program.Line.{wait}
 use Rattle.program_bytes.specs.Outcome.{Outcome}
 use Rattle.program_bytes.specs.Outcome.Outcome.{refused, accepted}
 use Rattle.program_bytes.specs.Format.{readProgram, programOf}

@@ -4,9 +4,9 @@ use mathlib.Core.Bool.{Bool, cond, _&&_}
 use mathlib.Core.List.{List}
 use lib.ListN.{length, getD}
 use lib.Dec.{ltb}
-use Rattle.model.specs.Program.{Operand, Line, Program, linesOf}
-use Rattle.model.specs.Program.Operand.{constant, register}
-use Rattle.model.specs.Program.Line.{sum, equal, less, jump, write, read, fadd, cas, wait, bcas}
+use Rattle.program.specs.Program.{Operand, Line, Program, linesOf}
+use Rattle.program.specs.Program.Operand.{constant, register}
+use Rattle.program.specs.Program.Line.{sum, equal, less, jump, write, read, fadd, cas, wait, bcas}
 use Rattle.program_bytes.specs.Outcome.{Outcome}
 use Rattle.program_bytes.specs.Outcome.Outcome.{refused, accepted}
 use Rattle.format.specs.Answer.{noHeader, headerOf}

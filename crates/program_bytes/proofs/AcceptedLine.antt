@@ -9,7 +9,7 @@ use lib.Seq.{drop-cons}
 use lib.Dec.{ltb}
 use borrow.Author.Tests.{ltb-true}
 use Rattle.limits.specs.Limits.{registers}
-use Rattle.model.specs.Program.{Line}
+use Rattle.program.specs.Program.{Line}
 use Rattle.program_bytes.specs.Outcome.Outcome.{accepted}
 use Rattle.program_bytes.specs.Ops.{isOp, opAt}
 use Rattle.program_bytes.specs.Format.{markIN, sizeIN, isRecord, isOperand, operand, whenUsed, zeroUnlessUsed}

@@ -8,7 +8,7 @@ use lib.ListN.{length, getD, drop}
 use lib.Seq.{drop-cons}
 use borrow.Author.Tests.{leb-true}
 use Rattle.limits.specs.Limits.{maxLines}
-use Rattle.model.specs.Program.{Line}
+use Rattle.program.specs.Program.{Line}
 use Rattle.program_bytes.specs.Outcome.Outcome.{accepted}
 use Rattle.program_bytes.specs.Format.{markTH, sizeTH, sizeIN, isRecord, readLines, readThread, readThreads}
 use Rattle.program_bytes.specs.Spelling.{spellLine, spellLines, spellThread, spellThreads, LineWithin, ThreadWithin}

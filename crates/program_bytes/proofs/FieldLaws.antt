@@ -7,8 +7,8 @@ use native.Mathlib.Omega.{arith}
 use lib.Dec.{leb, ltb}
 use borrow.Author.Tests.{ltb-true, leb-true, eqb-true, lt-ltb, le-ltb, le-leb}
 use Rattle.limits.specs.Limits.{registers}
-use Rattle.model.specs.Program.{Operand}
-use Rattle.model.specs.Program.Operand.{constant, register}
+use Rattle.program.specs.Program.{Operand}
+use Rattle.program.specs.Program.Operand.{constant, register}
 use Rattle.program_bytes.specs.Format.{firstRegister, isOperand, operand, whenUsed, zeroUnlessUsed}
 use Rattle.program_bytes.specs.Spelling.{operandByte, OperandWithin}
 

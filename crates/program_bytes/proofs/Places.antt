@@ -6,7 +6,7 @@ use native.Mathlib.Omega.{arith}
 use lib.ListN.{length, getD, drop, length-drop}
 use lib.Seq.{drop-drop, drop-at, getD-drop}
 use Rattle.limits.specs.Limits.{minValues, maxValues}
-use Rattle.model.specs.Program.{Line, Program, linesOf}
+use Rattle.program.specs.Program.{Line, Program, linesOf}
 use Rattle.program_bytes.specs.Outcome.Outcome.{accepted}
 use Rattle.program_bytes.specs.Format.{sizePR, sizeTH, sizeIN, readLine, readProgram}
 use Rattle.program_bytes.specs.Spelling.{spellLine, spellLines, spellThread, spellThreads, spell}

@@ -6,7 +6,7 @@ use mathlib.Core.Path.{_≡_, refl, sym, ap, ap₂, subst, _∙_}
 use native.Mathlib.Omega.{arith}
 use lib.ListN.{length, getD, drop}
 use borrow.Author.Tests.{eqb-true}
-use Rattle.model.specs.Program.{Line, Program}
+use Rattle.program.specs.Program.{Line, Program}
 use Rattle.program_bytes.specs.Outcome.Outcome.{accepted}
 use Rattle.program_bytes.specs.Format.{markPR, sizePR, isRecord, endsAfter, readThreads, readProgram}
 use Rattle.program_bytes.specs.Spelling.{spellThreads, spell, Within}

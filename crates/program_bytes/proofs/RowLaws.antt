@@ -6,7 +6,7 @@ use native.Mathlib.Omega.{arith}
 use lib.Dec.{leb}
 use borrow.Author.Tests.{leb-true}
 use Rattle.limits.specs.Limits.{registers}
-use Rattle.model.specs.Program.{Operand}
+use Rattle.program.specs.Program.{Operand}
 use Rattle.program_bytes.specs.Ops.{sumOp, opTable, isOp, opAt}
 use Rattle.program_bytes.specs.Format.{usesTarget, isTarget}
 use Rattle.program_bytes.specs.Spelling.{operandByte, lineRecord, spellLine, OperandWithin, LineWithin}

@@ -7,9 +7,9 @@ use native.Mathlib.Omega.{arith}
 use lib.Dec.{ltb}
 use borrow.Author.Tests.{le-leb}
 use Rattle.limits.specs.Limits.{registers, minValues, maxValues}
-use Rattle.model.specs.Program.{Operand, Line}
-use Rattle.model.specs.Program.Operand.{constant}
-use Rattle.model.specs.Program.Line.{sum, equal, less, jump, write, read, fadd, cas, wait, bcas}
+use Rattle.program.specs.Program.{Operand, Line}
+use Rattle.program.specs.Program.Operand.{constant}
+use Rattle.program.specs.Program.Line.{sum, equal, less, jump, write, read, fadd, cas, wait, bcas}
 use Rattle.program_bytes.specs.Outcome.Outcome.{accepted}
 use Rattle.program_bytes.specs.Ops.{isOp, opAt, opTable, sumOp}
 use Rattle.program_bytes.specs.Format.{markIN, sizeIN, operand, usesTarget, zeroUnlessUsed, whenUsed}

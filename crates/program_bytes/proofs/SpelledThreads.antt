@@ -6,7 +6,7 @@ use native.Mathlib.Omega.{arith}
 use lib.ListN.{length}
 use borrow.Author.Tests.{le-leb}
 use Rattle.limits.specs.Limits.{minValues, maxValues, maxLines}
-use Rattle.model.specs.Program.{Line}
+use Rattle.program.specs.Program.{Line}
 use Rattle.program_bytes.specs.Outcome.Outcome.{accepted}
 use Rattle.program_bytes.specs.Format.{markTH, sizeTH, readLines, readThread, readThreads}
 use Rattle.program_bytes.specs.Spelling.{spellLine, spellLines, spellThread, spellThreads, LineWithin, ThreadWithin, All}

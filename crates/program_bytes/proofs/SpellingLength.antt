@@ -4,8 +4,8 @@ use mathlib.Core.List.{List, [], _∷_}
 use mathlib.Core.Path.{_≡_, refl}
 use native.Mathlib.Omega.{arith}
 use lib.ListN.{length, length-append}
-use Rattle.model.specs.Program.{Line}
-use Rattle.model.specs.Program.Line.{sum, equal, less, jump, write, read, fadd, cas, wait, bcas}
+use Rattle.program.specs.Program.{Line}
+use Rattle.program.specs.Program.Line.{sum, equal, less, jump, write, read, fadd, cas, wait, bcas}
 use Rattle.program_bytes.specs.Format.{sizeTH, sizeIN}
 use Rattle.program_bytes.specs.Spelling.{spellLine, spellLines, spellThread}
 

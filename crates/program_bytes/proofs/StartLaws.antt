@@ -6,7 +6,7 @@ use native.Mathlib.Nat.{add-zero}
 use native.Mathlib.Omega.{arith}
 use lib.ListN.{length, getD, length-append}
 use Rattle.limits.specs.Limits.{maxThreads, maxLines}
-use Rattle.model.specs.Program.{Line, Program}
+use Rattle.program.specs.Program.{Line, Program}
 use Rattle.program_bytes.specs.Outcome.Outcome.{accepted}
 use Rattle.program_bytes.specs.Format.{sizePR, sizeTH, sizeIN, readProgram}
 use Rattle.program_bytes.specs.Spelling.{spellThread, spellThreads, spell, ThreadWithin, All}

@@ -3,9 +3,9 @@ use Prim.Native.Nat.{ℕ, _+_, _≤_, _<_}
 use mathlib.Core.List.{List, [], _∷_, _++_}
 use lib.ListN.{length}
 use Rattle.limits.specs.Limits.{maxThreads, maxLocations, minValues, maxValues, maxLines, registers}
-use Rattle.model.specs.Program.{Operand, Line, Program}
-use Rattle.model.specs.Program.Operand.{constant, register}
-use Rattle.model.specs.Program.Line.{sum, equal, less, jump, write, read, fadd, cas, wait, bcas}
+use Rattle.program.specs.Program.{Operand, Line, Program}
+use Rattle.program.specs.Program.Operand.{constant, register}
+use Rattle.program.specs.Program.Line.{sum, equal, less, jump, write, read, fadd, cas, wait, bcas}
 use Rattle.program_bytes.specs.Format.{markPR, markTH, markIN, firstRegister}
 
 -- The byte of an operand.

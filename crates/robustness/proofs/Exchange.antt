@@ -8,8 +8,8 @@ use Prim.Native.Nat.{ℕ}
 use lib.ListN.{length, set}
 use lib.Seq.{getD-set-other, set-comm}
 use Rattle.relations.proofs.Lists.{member-put-in}
-use Rattle.model.specs.Program.{Program}
-use Rattle.model.specs.Thread.{startThread, nextLine}
+use Rattle.program.specs.Program.{Program}
+use Rattle.program.specs.Thread.{startThread, nextLine}
 use Rattle.model.specs.Graph.{Id, event, Event, Graph, eventsOf, order, eventAt, valueWritten, valueOf, nextId}
 use Rattle.model.specs.Graph.{eventOf, directlyAfter, extend}
 use Rattle.model.specs.Run.{State, threadOf, Access, graphAfter, stateAfter}

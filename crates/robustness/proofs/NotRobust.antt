@@ -5,8 +5,8 @@ use Prim.Native.Nat.{ℕ}
 use Rattle.relations.specs.Closure.{edge, further}
 use Rattle.relations.proofs.Laws.{closure-joins}
 use Rattle.relations.proofs.Lists.{same-last, regroup-snoc, member-put-in}
-use Rattle.model.specs.Program.{Program}
-use Rattle.model.specs.Thread.{Kind}
+use Rattle.program.specs.Program.{Program}
+use Rattle.program.specs.Thread.{Kind}
 use Rattle.model.specs.Graph.{Id, order}
 use Rattle.model.specs.Order.{ScOrder}
 use Rattle.model.specs.Run.{State, Access, graphAfter, accessStep, andStep, ScRun}

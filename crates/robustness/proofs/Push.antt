@@ -10,8 +10,8 @@ use Prim.Native.Nat.{ℕ}
 use native.Mathlib.Omega.{arith}
 use native.Mathlib.Decide.{ℕ-discrete}
 use Rattle.relations.proofs.Lists.{Snoc, empty-or-snoc, snoc-not-nil, split-of-snoc, member-put-in}
-use Rattle.model.specs.Program.{Program}
-use Rattle.model.specs.Thread.{ThreadState, Action, reads, writes, updates, nextLine, local}
+use Rattle.program.specs.Program.{Program}
+use Rattle.program.specs.Thread.{ThreadState, Action, reads, writes, updates, nextLine, local}
 use Rattle.model.specs.Graph.{Id, order, isUpdate, valueOf, nextId, eventOf, directlyAfter}
 use Rattle.model.specs.Run.{State, threadOf, Access, graphAfter, stateAfter, afterLocal, writing, startsWithUpdate}
 use Rattle.model.specs.Run.{Allowed}

@@ -6,8 +6,8 @@ use Prim.Native.Nat.{ℕ, zero, suc}
 use native.Mathlib.Omega.{arith}
 use Rattle.relations.specs.Closure.{IsOrBefore}
 use Rattle.relations.proofs.Lists.{Snoc, empty-or-snoc, member-put-in}
-use Rattle.model.specs.Program.{Program}
-use Rattle.model.specs.Thread.{kindOf}
+use Rattle.program.specs.Program.{Program}
+use Rattle.program.specs.Thread.{kindOf}
 use Rattle.model.specs.Graph.{valueOf}
 use Rattle.model.specs.Order.{ScOrder}
 use Rattle.model.specs.Run.{State, threadOf, Access, stateAfter, Allowed, localStep, accessStep, noStep, andStep}

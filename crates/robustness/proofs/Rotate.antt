@@ -10,7 +10,7 @@ use lib.ListN.{length, length-append}
 use Rattle.relations.specs.Closure.{edge, IsOrBefore}
 use Rattle.relations.proofs.Laws.{before-joins}
 use Rattle.relations.proofs.Lists.{same-last, regroup-snoc}
-use Rattle.model.specs.Program.{Program}
+use Rattle.program.specs.Program.{Program}
 use Rattle.model.specs.Graph.{Id, Graph, order, threadEvents}
 use Rattle.model.specs.Order.{ScEdge, ScOrder}
 use Rattle.model.specs.Run.{State, startState, Access, graphAfter, stateAfter, afterLocal, writing, localStep}

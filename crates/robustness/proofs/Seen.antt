@@ -9,7 +9,7 @@ use lib.ListN.{length}
 use Rattle.relations.specs.Closure.{edge, IsOrBefore, Reaches}
 use Rattle.relations.proofs.Laws.{before-joins}
 use Rattle.relations.proofs.Lists.{same-last}
-use Rattle.model.specs.Program.{Program}
+use Rattle.program.specs.Program.{Program}
 use Rattle.model.specs.Graph.{Id, event, Graph, eventsOf, order, threadEvents}
 use Rattle.model.specs.Order.{HappensBefore, fromRead, ScEdge, ScOrder, ModificationOrder}
 use Rattle.model.specs.Run.{State, graphAfter, stateAfter, afterLocal, writing, Rule, Step, localStep, accessStep}

@@ -8,8 +8,8 @@ use Prim.Native.Nat.{ℕ}
 use native.Mathlib.Omega.{arith}
 use Rattle.relations.proofs.Laws.{last-edge}
 use Rattle.relations.specs.Closure.{IsOrBefore, edge, further, here, Reaches}
-use Rattle.model.specs.Program.{Program, constant, write, read}
-use Rattle.model.specs.Thread.{ThreadState, load, Read, reads, writes, nextLine, doesAt, does, operand, kindOf}
+use Rattle.program.specs.Program.{Program, constant, write, read}
+use Rattle.program.specs.Thread.{ThreadState, load, Read, reads, writes, nextLine, doesAt, does, operand, kindOf}
 use Rattle.model.specs.Graph.{Id, start, event, writeE, startGraph, eventAt, below, threadEvents, valueWritten}
 use Rattle.model.specs.Graph.{sourceOf}
 use Rattle.model.specs.Graph.{eventOf, directlyAfter, extend}

@@ -8,8 +8,8 @@ use Prim.Native.Nat.{ℕ}
 use lib.ListN.{set}
 use lib.Seq.{set-comm, set-set}
 use Rattle.relations.proofs.Lists.{Snoc, split-has-last, same-last, regroup-snoc, regroup-after, member-put-in}
-use Rattle.model.specs.Program.{Program}
-use Rattle.model.specs.Thread.{Action, reads, writes, updates}
+use Rattle.program.specs.Program.{Program}
+use Rattle.program.specs.Thread.{Action, reads, writes, updates}
 use Rattle.model.specs.Graph.{Id, Graph, order, valueWritten, valueOf, nextId, eventOf, directlyAfter}
 use Rattle.model.specs.Run.{State, threadOf, Access, graphAfter, stateAfter, writing}
 use Rattle.model.proofs.Lookup.{other-order, new-order}

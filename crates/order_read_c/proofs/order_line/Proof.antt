@@ -1,5 +1,5 @@
-use Rattle.model.specs.Program.Line.{wait}
-use Rattle.model.specs.Program.Operand.{constant}
+use Rattle.program.specs.Program.Line.{wait}
+use Rattle.program.specs.Program.Operand.{constant}
 use Rattle.order_read_c.proofs.Answers.{none-answered, thread-missing, thread-there, line-missing, line-there, line-answered}
 use Rattle.format.proofs.AcceptedHeader.{passed-is-accepted, accepted-within}
 use native.Mathlib.Omega.{arith}

@@ -6,8 +6,8 @@ use mathlib.Core.Option.{Option, none, some}
 use lib.Dec.{eqb, ltb}
 use lib.ListN.{getD, getElem?, set, replicate}
 use Rattle.limits.specs.Limits.{registers as registerCount}
-use Rattle.model.specs.Program.{Operand, constant, register, Line, Program, linesOf}
-use Rattle.model.specs.Program.{sum, equal, less, jump, write, read, fadd, cas, wait, bcas}
+use Rattle.program.specs.Program.{Operand, constant, register, Line, Program, linesOf}
+use Rattle.program.specs.Program.{sum, equal, less, jump, write, read, fadd, cas, wait, bcas}
 
 -- "A thread state is a thread's line and registers."
 pub record ThreadState : Type 0 where

@@ -1,0 +1,1 @@
+// No code: the program as data, and what a thread's next line does.
