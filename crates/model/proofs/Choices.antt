@@ -11,11 +11,11 @@ use Rattle.relations.specs.Closure.{Reaches}
 use Rattle.relations.proofs.Decide.{dec-map, dec-and, dec-not, dec-none, dec-some, SplitAt, dec-split}
 use Rattle.relations.proofs.Lists.{Snoc, empty-or-snoc, snoc-not-nil, same-last}
 use Rattle.program.specs.Program.{Program}
-use Rattle.program.specs.Thread.{Action, Kind, Read, Write, Update, kindOf, Effect, NextLine, ended, local}
+use Rattle.program.specs.Thread.{Action, Kind, Read, Write, Update, kindOf, Effect, NextLine, ended, local, writing}
 use Rattle.program.specs.Thread.{access, nextLine}
 use Rattle.model.specs.Graph.{Id, Graph, order, threadEvents, valueOf}
 use Rattle.model.specs.Order.{HappensBefore, ScOrder}
-use Rattle.model.specs.Run.{State, threadOf, writing, startsWithUpdate, Allowed}
+use Rattle.model.specs.Run.{State, threadOf, startsWithUpdate, Allowed}
 use Rattle.model.specs.Witness.{Witness}
 use Rattle.model.specs.Readable.{Readable}
 use Rattle.model.proofs.Decidable.{dec-happens-reaches, dec-sc-order}

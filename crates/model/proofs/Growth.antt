@@ -12,13 +12,12 @@ use Rattle.relations.proofs.Laws.{closure-grows}
 use Rattle.relations.proofs.Lists.{row-in-range, regroup-after, member-inserted, member-old-or-put-in}
 use Rattle.relations.proofs.Lists.{precedes-inserted}
 use Rattle.relations.proofs.Lists.{precedes-old-or-put-in, member-put-in}
-use Rattle.program.specs.Thread.{Action, reads, writes, updates}
+use Rattle.program.specs.Thread.{Action, reads, writes, updates, writing}
 use Rattle.model.specs.Graph.{Id, Event, Graph, eventsOf, order, eventAt, sourceOf, valueOf}
 use Rattle.model.specs.Graph.{nextId, eventOf, directlyAfter, extend}
 use Rattle.model.specs.Order.{ThreadOrder, starting, within, ReadsFrom, ModificationOrder, at, FromRead}
 use Rattle.model.specs.Order.{HappensEdge, threadOrder, readsFrom, HappensBefore, ScEdge, happensBefore}
 use Rattle.model.specs.Order.{modificationOrder, fromRead, ScOrder}
-use Rattle.model.specs.Run.{writing}
 use Rattle.model.proofs.Lookup.{same-locations, more-events, event-kept, new-event, event-old-or-new}
 use Rattle.model.proofs.Lookup.{new-order, orders-after, reading-event}
 

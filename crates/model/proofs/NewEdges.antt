@@ -9,12 +9,11 @@ use native.Mathlib.Omega.{arith}
 use lib.ListN.{length}
 use Rattle.relations.specs.Closure.{Precedes, edge}
 use Rattle.relations.proofs.Lists.{precedes-after, precedes-put-in, member-put-in, length-of-snoc}
-use Rattle.program.specs.Thread.{Action, reads, writes, updates}
+use Rattle.program.specs.Thread.{Action, reads, writes, updates, writing}
 use Rattle.model.specs.Graph.{Id, Graph, eventsOf, order, sourceOf, eventOf, threadEvents}
 use Rattle.model.specs.Order.{ThreadOrder, threadOrder, within, ReadsFrom, ModificationOrder, at, readsFrom}
 use Rattle.model.specs.Order.{ScEdge}
 use Rattle.model.specs.Order.{happensBefore, modificationOrder, fromRead}
-use Rattle.model.specs.Run.{writing}
 use Rattle.model.proofs.Lookup.{place-of-own, own-events}
 use Rattle.model.proofs.Growth.{Addition, newId, newEvent, newOrder, grown, upToPicked, order-here}
 use Rattle.model.proofs.Growth.{order-written, writing-cases}

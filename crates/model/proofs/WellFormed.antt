@@ -9,10 +9,9 @@ use Prim.Native.Nat.{ℕ, _<_}
 use native.Mathlib.Omega.{arith}
 use lib.ListN.{length}
 use Rattle.relations.specs.Closure.{Precedes}
-use Rattle.program.specs.Thread.{Action, reads, writes, updates}
+use Rattle.program.specs.Thread.{Action, reads, writes, updates, writing}
 use Rattle.model.specs.Graph.{Id, start, Event, readE, writeE, updateE, Graph, order, eventAt, locationOf}
 use Rattle.model.specs.Graph.{sourceOf, nextId, eventOf}
-use Rattle.model.specs.Run.{writing}
 use Rattle.model.proofs.Lookup.{same-locations, present-not-next}
 use Rattle.model.proofs.Growth.{Addition, in-order, newId, newEvent, newOrder, grown, upToPicked}
 use Rattle.model.proofs.Growth.{OrderAfter, unchanged, putIn, order-after, member-stays, member-old-or-new}

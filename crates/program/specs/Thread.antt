@@ -1,6 +1,6 @@
 -- Thread states and what a thread's next line does: document 01, sections "Program bytes" and "Graphs".
 use Prim.Native.Nat.{ℕ, suc, _+_, _%_}
-use mathlib.Core.Bool.{cond}
+use mathlib.Core.Bool.{Bool, true, false, cond}
 use mathlib.Core.List.{List}
 use mathlib.Core.Option.{Option, none, some}
 use lib.Dec.{eqb, ltb}
@@ -50,6 +50,12 @@ unfoldable pub kindOf : Action → Kind
 kindOf reads = Read
 kindOf (writes v) = Write
 kindOf (updates v) = Update
+
+-- An action writes.
+unfoldable pub writing : Action → Bool
+writing reads = false
+writing (writes v) = true
+writing (updates v) = true
 
 -- What an access does, and the thread state after it.
 pub record Effect : Type 0 where

@@ -11,9 +11,9 @@ use native.Mathlib.Omega.{arith}
 use native.Mathlib.Decide.{ℕ-discrete}
 use Rattle.relations.proofs.Lists.{Snoc, empty-or-snoc, snoc-not-nil, split-of-snoc, member-put-in}
 use Rattle.program.specs.Program.{Program}
-use Rattle.program.specs.Thread.{ThreadState, Action, reads, writes, updates, nextLine, local}
+use Rattle.program.specs.Thread.{ThreadState, Action, reads, writes, updates, nextLine, local, writing}
 use Rattle.model.specs.Graph.{Id, order, isUpdate, valueOf, nextId, eventOf, directlyAfter}
-use Rattle.model.specs.Run.{State, threadOf, Access, graphAfter, stateAfter, afterLocal, writing, startsWithUpdate}
+use Rattle.model.specs.Run.{State, threadOf, Access, graphAfter, stateAfter, afterLocal, startsWithUpdate}
 use Rattle.model.specs.Run.{Allowed}
 use Rattle.model.specs.Run.{localStep, accessStep, ScStep}
 use Rattle.model.proofs.Growth.{Addition, newId, upToPicked, old-order, order-here, order-written, written}

@@ -10,10 +10,11 @@ use lib.ListN.{length, length-append}
 use Rattle.relations.specs.Closure.{edge, IsOrBefore}
 use Rattle.relations.proofs.Laws.{before-joins}
 use Rattle.relations.proofs.Lists.{same-last, regroup-snoc}
+use Rattle.program.specs.Thread.{writing}
 use Rattle.program.specs.Program.{Program}
 use Rattle.model.specs.Graph.{Id, Graph, order, threadEvents}
 use Rattle.model.specs.Order.{ScEdge, ScOrder}
-use Rattle.model.specs.Run.{State, startState, Access, graphAfter, stateAfter, afterLocal, writing, localStep}
+use Rattle.model.specs.Run.{State, startState, Access, graphAfter, stateAfter, afterLocal, localStep}
 use Rattle.model.specs.Run.{accessStep}
 use Rattle.model.specs.Run.{ScStep, ScRun, noStep, andStep}
 use Rattle.model.proofs.Growth.{Addition, newId, grown, upToPicked, OrderAfter, unchanged, putIn, order-after}

@@ -9,10 +9,11 @@ use lib.ListN.{length}
 use Rattle.relations.specs.Closure.{edge, IsOrBefore, Reaches}
 use Rattle.relations.proofs.Laws.{before-joins}
 use Rattle.relations.proofs.Lists.{same-last}
+use Rattle.program.specs.Thread.{writing}
 use Rattle.program.specs.Program.{Program}
 use Rattle.model.specs.Graph.{Id, event, Graph, eventsOf, order, threadEvents}
 use Rattle.model.specs.Order.{HappensBefore, fromRead, ScEdge, ScOrder, ModificationOrder}
-use Rattle.model.specs.Run.{State, graphAfter, stateAfter, afterLocal, writing, Rule, Step, localStep, accessStep}
+use Rattle.model.specs.Run.{State, graphAfter, stateAfter, afterLocal, Rule, Step, localStep, accessStep}
 use Rattle.model.proofs.Lookup.{own-event, place-of-own, more-events, new-own-event}
 use Rattle.model.proofs.Growth.{Addition, newId, newEvent, newOrder, grown, upToPicked, order-here, order-written}
 use Rattle.model.proofs.Growth.{order-unwritten}

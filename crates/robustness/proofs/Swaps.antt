@@ -9,9 +9,9 @@ use lib.ListN.{set}
 use lib.Seq.{set-comm, set-set}
 use Rattle.relations.proofs.Lists.{Snoc, split-has-last, same-last, regroup-snoc, regroup-after, member-put-in}
 use Rattle.program.specs.Program.{Program}
-use Rattle.program.specs.Thread.{Action, reads, writes, updates}
+use Rattle.program.specs.Thread.{Action, reads, writes, updates, writing}
 use Rattle.model.specs.Graph.{Id, Graph, order, valueWritten, valueOf, nextId, eventOf, directlyAfter}
-use Rattle.model.specs.Run.{State, threadOf, Access, graphAfter, stateAfter, writing}
+use Rattle.model.specs.Run.{State, threadOf, Access, graphAfter, stateAfter}
 use Rattle.model.proofs.Lookup.{other-order, new-order}
 use Rattle.model.proofs.Growth.{hasLocation, not-written, order-here, order-unwritten}
 use Rattle.model.proofs.Reachable.{Good, additionOf}
