@@ -48,11 +48,16 @@ module _ (bytes : List ℕ) (h : Header) (is : Accepted bytes h) where
   values-counted = ap (λ (x : Header). x .values) (is .header)
 
   -- The number of lines of each thread.
-  pub lines-counted : (t : ℕ) → t < length (programOf bytes .threads) → getD (h .counts) t 0 ≡ length (linesOf (programOf bytes) t)
+  pub lines-counted : (t : ℕ) → t < length (programOf bytes .threads) → getD (h .counts) t 0 ≡ length (linesOf
+      (programOf bytes) t)
   unfolding headerOf
   lines-counted t less =
       let threads = programOf bytes .threads in
       let long = length-map threads length in
       ap (λ (x : Header). getD (x .counts) t 0) (is .header)
-      ∙ front-of-row maxThreads (map length threads) t (omega (arith, long)) (omega (arith, long, accepted-within .few-threads))
+      ∙ front-of-row maxThreads (map length threads) t (omega (arith, long)) (omega (
+        arith,
+        long,
+        accepted-within .few-threads,
+      ))
       ∙ List·getD-map length threads t []

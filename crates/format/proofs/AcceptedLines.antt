@@ -22,9 +22,13 @@ use Rattle.program_bytes.proofs.Places.{LineStands, line-stands}
 use Rattle.program_bytes.proofs.StartLaws.{length-startsFrom}
 
 -- What fills the front of a row of zeros is read there.
-pub front-of-row : (width : ℕ) (l : List ℕ) (t : ℕ) → t < length l → length l ≤ width → getD (sets (replicate width 0) 0 l) t 0 ≡ getD l t 0
+pub front-of-row : (width : ℕ) (l : List ℕ) (t : ℕ) → t < length l → length l ≤ width → getD (sets
+    (replicate width 0) 0 l) t 0 ≡ getD l t 0
 front-of-row width l t h fits =
-    ap (λ (r : List ℕ). getD r t 0) (sets-eq l (replicate width 0) 0 (omega (arith, length-replicate {A = ℕ} width 0)))
+    ap (λ (r : List ℕ). getD r t 0) (sets-eq l (replicate width 0) 0 (omega (
+      arith,
+      length-replicate {A = ℕ} width 0,
+    )))
     ∙ List·getD-append l _ 0 t h
 
 module _ (bytes : List ℕ) (h : Header) (is : Accepted bytes h) (t i : ℕ)
@@ -41,9 +45,14 @@ module _ (bytes : List ℕ) (h : Header) (is : Accepted bytes h) (t i : ℕ)
       let threads = programOf bytes .threads in
       let long = length-startsFrom sizePR threads in
       ap (λ (x : Header). getD (x .starts) t 0) (is .header)
-      ∙ front-of-row maxThreads (startsFrom sizePR threads) t (omega (arith, long)) (omega (arith, long, few-threads))
+      ∙ front-of-row maxThreads (startsFrom sizePR threads) t (omega (arith, long)) (omega (
+        arith,
+        long,
+        few-threads,
+      ))
 
-  stands : (other : Line) → LineStands (programOf bytes .locations) (programOf bytes .values) (length (linesOf (programOf bytes) t)) bytes
+  stands : (other : Line) → LineStands (programOf bytes .locations) (programOf bytes .values) (length (linesOf
+      (programOf bytes) t)) bytes
       (startOf (programOf bytes .threads) t + sizeIN * i) (getD (linesOf (programOf bytes) t) i other)
   stands other = line-stands bytes (programOf bytes) (is .program) t i other in-threads in-lines
 

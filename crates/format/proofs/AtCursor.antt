@@ -12,7 +12,8 @@ use borrow.Author.Tests.{lt-leb, le-leb}
 use Rattle.program_bytes.specs.Format.{startsWith, isRecord}
 
 -- Two more elements stand at the front of a long enough rest.
-pub drop-two : (l : List ℕ) (at : ℕ) → at + 2 ≤ length l → drop at l ≡ getD l at 0 ∷ getD l (at + 1) 0 ∷ drop (at + 2) l
+pub drop-two : (l : List ℕ) (at : ℕ) → at + 2 ≤ length l → drop at l ≡ getD l at 0 ∷ getD l (at + 1) 0 ∷ drop
+    (at + 2) l
 drop-two l at h =
     drop-cons l at 0 (omega arith)
     ∙ ap (λ (t : List ℕ). getD l at 0 ∷ t)
@@ -22,16 +23,19 @@ drop-two l at h =
 
 -- A mark of two bytes is compared byte by byte.
 pub two-marks : (mark bytes : List ℕ) (at : ℕ) → length mark ≡ 2 → at + 2 ≤ length bytes
-    → startsWith mark (drop at bytes) ≡ (eqb (getD bytes at 0) (getD mark 0 0) && eqb (getD bytes (at + 1) 0) (getD mark 1 0))
+    → startsWith mark (drop at bytes) ≡ (eqb (getD bytes at 0) (getD mark 0 0) && eqb (getD bytes (at + 1) 0)
+    (getD mark 1 0))
 unfolding startsWith
 two-marks [] bytes at e h = absurd (let n : 0 ≡ 2 = e in omega arith)
 two-marks (m ∷ []) bytes at e h = absurd (omega (arith, e))
 two-marks (m ∷ k ∷ []) bytes at e h =
-    ap (startsWith (m ∷ k ∷ [])) (drop-two bytes at h) ∙ ap (λ (b : Bool). eqb (getD bytes at 0) m && b) (and-true _)
+    ap (startsWith (m ∷ k ∷ [])) (drop-two bytes at h) ∙ ap (λ (b : Bool). eqb (getD bytes at 0) m && b)
+    (and-true _)
 two-marks (m ∷ k ∷ j ∷ mark) bytes at e h = absurd (omega (arith, e))
 
 -- A record that runs past the end is not there.
-pub too-short : (mark bytes : List ℕ) (at size : ℕ) → length bytes - at < size → isRecord mark size (drop at bytes) ≡ false
+pub too-short : (mark bytes : List ℕ) (at size : ℕ) → length bytes - at < size → isRecord mark size
+    (drop at bytes) ≡ false
 unfolding isRecord
 too-short mark bytes at size h = rw (length-drop at bytes, lt-leb size (length bytes - at) h)
 

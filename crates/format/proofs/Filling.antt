@@ -74,7 +74,8 @@ thread-accepted (accepted got) {n} e = (got, refl, (let i : length (got .0) ≡ 
 filled-cons : (L K : ℕ) (h : Header) (i next : ℕ) (lines : List Line) (o : Outcome (List (List Line) × List ℕ))
     → filled h i next
     (andThen (andThen o (λ others. accepted (lines ∷ others .0, others .1))) (endsAfter L K))
-    ≡ filled (withThread h i (next + sizeTH) (length lines)) (i + 1) (next + threadSize lines) (andThen o (endsAfter L K))
+    ≡ filled (withThread h i (next + sizeTH) (length lines)) (i + 1) (next + threadSize lines) (andThen o
+    (endsAfter L K))
 unfolding filled andThen endsAfter check startsFrom
 filled-cons L K h i next lines (refused k) = refl
 filled-cons L K h i next lines (accepted others) = ends-or-not (eqb (length (others .1)) 0)
@@ -88,14 +89,16 @@ filled-cons L K h i next lines (accepted others) = ends-or-not (eqb (length (oth
 
 module _ (L K : ℕ) (bytes : List ℕ) where
   -- A thread that fails ends the reading.
-  thread-fails : (left : ℕ) → 0 < left → {k : ℕ} (h : Header) (i next : ℕ) → threadOf (readThread L K bytes) ≡ Faulty k
+  thread-fails : (left : ℕ) → 0 < left → {k : ℕ} (h : Header) (i next : ℕ) → threadOf
+      (readThread L K bytes) ≡ Faulty k
       → filled h i next (restOf L K left bytes) ≡ refusal k
   unfolding filled readThreads andThen
   thread-fails zero some h i next e = absurd (omega arith)
   thread-fails (suc left) some h i next e = rw (thread-refused (readThread L K bytes) e)
 
   -- A thread that is read leaves one fewer.
-  thread-passes : (left : ℕ) → 0 < left → {n : ℕ} (h : Header) (i next : ℕ) → threadOf (readThread L K bytes) ≡ Lines n
+  thread-passes : (left : ℕ) → 0 < left → {n : ℕ} (h : Header) (i next : ℕ) → threadOf
+      (readThread L K bytes) ≡ Lines n
       → (sizeTH + n * sizeIN ≤ length bytes)
       × (filled h i next (restOf L K left bytes)
       ≡ filled (withThread h i (next + sizeTH) n) (i + 1) (next + (sizeTH + n * sizeIN))
@@ -111,7 +114,8 @@ module _ (L K : ℕ) (bytes : List ℕ) where
         ap (λ (r : Outcome (List (List Line) × List ℕ)). filled h i next (andThen r (endsAfter L K)))
             (andThen-goes-on (readThread L K bytes) _ read)
             ∙ filled-cons L K h i next (got .0) o
-            ∙ ap (λ (b : List ℕ). filled (withThread h i (next + sizeTH) (length (got .0))) (i + 1) (next + threadSize (got .0))
+            ∙ ap (λ (b : List ℕ). filled (withThread h i (next + sizeTH) (length (got .0))) (i + 1)
+            (next + threadSize (got .0))
             (restOf L K left b)) (now .after)
             ∙ ap (λ (m : ℕ). filled (withThread h i (next + sizeTH) m) (i + 1) (next + (sizeTH + m * sizeIN))
             (restOf L K left (drop (sizeTH + m * sizeIN) bytes))) counted
@@ -142,7 +146,8 @@ filled-is-reading T L K bytes = go (readThreads L K T bytes) refl
     go (accepted got) e = ends-or-not (eqb (length (got .1)) 0)
       where
         ends-or-not : (b : Bool)
-            → filled (emptyHeader T L K) 0 sizePR (check 9 b (accepted (record { threads = got .0; locations = L; values = K })))
+            → filled (emptyHeader T L K) 0 sizePR (check 9 b (accepted
+            (record { threads = got .0; locations = L; values = K })))
             ≡ reading (check 9 b (accepted (record { threads = got .0; locations = L; values = K })))
         ends-or-not true = rw (sym (threads-read L K T bytes e .counted))
         ends-or-not false = refl
@@ -151,7 +156,8 @@ filled-is-reading T L K bytes = go (readThreads L K T bytes) refl
 abbrev pub Ahead : (L K T : ℕ) → List ℕ → Header → (i next : ℕ) → Reading → Type 0
 Ahead L K T bytes h i next whole = filled h i next (restOf L K (T - i) (drop next bytes)) ≡ whole
 
-module _ (L K T : ℕ) (bytes : List ℕ) (h : Header) (i next : ℕ) (whole : Reading) (ahead : Ahead L K T bytes h i next whole) where
+module _ (L K T : ℕ) (bytes : List ℕ) (h : Header) (i next : ℕ) (whole : Reading)
+    (ahead : Ahead L K T bytes h i next whole) where
   pub turn-fails : i < T → {k : ℕ} → threadOf (readThread L K (drop next bytes)) ≡ Faulty k → refusal k ≡ whole
   turn-fails more e = sym (thread-fails L K (drop next bytes) (T - i) (omega arith) h i next e) ∙ ahead
 
@@ -173,7 +179,8 @@ module _ (L K T : ℕ) (bytes : List ℕ) (h : Header) (i next : ℕ) (whole : R
   input-ends e end = sym (ends L K (drop next bytes) h i next (omega (arith, length-drop next bytes))) ∙ all-read e
 
   pub input-goes-on : i ≡ T → next < length bytes → refusal 9 ≡ whole
-  input-goes-on e more = sym (goes-on L K (drop next bytes) h i next (omega (arith, length-drop next bytes))) ∙ all-read e
+  input-goes-on e more = sym (goes-on L K (drop next bytes) h i next (omega (arith, length-drop next bytes)))
+      ∙ all-read e
 
 -- Where the loop begins.
 pub begins : (T L K : ℕ) (bytes : List ℕ) (h : Header) → h ≡ emptyHeader T L K

@@ -33,6 +33,7 @@ module _ (r : Row) (f : Fields) (e : r ≡ rowOf (opAt (f .op))) where
   five-tests = rw (e, target-back (opAt (f .op) .target))
 
   -- Check 8, test by test.
-  pub two-tests : (k : ℕ) → areOperands (opAt (f .op)) k (f .a) (f .b) ≡ (whenUsed (r .a) (isOperand k (f .a)) && whenUsed (r .b) (isOperand k (f .b)))
+  pub two-tests : (k : ℕ) → areOperands (opAt (f .op)) k (f .a) (f .b) ≡ (whenUsed (r .a) (isOperand k
+      (f .a)) && whenUsed (r .b) (isOperand k (f .b)))
   unfolding areOperands rowOf
   two-tests k = rw e

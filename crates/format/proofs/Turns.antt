@@ -34,7 +34,8 @@ module _ {A : Type 0} where
   is-refused (accepted a) e = absurd (let z : _≡_ {A = ℕ} 0 1 = cc in omega arith)
 
 -- What only goes on has the check of what it goes on from.
-pub check-goes-on : {A B : Type 0} (o : Outcome A) (f : A → B) → checkOf (andThen o (λ a. accepted (f a))) ≡ checkOf o
+pub check-goes-on : {A B : Type 0} (o : Outcome A) (f : A → B) → checkOf (andThen o (λ a. accepted
+    (f a))) ≡ checkOf o
 unfolding andThen checkOf
 check-goes-on (refused k) f = refl
 check-goes-on (accepted a) f = refl
@@ -51,7 +52,8 @@ module _ (L K n : ℕ) (bytes : List ℕ) where
       → checkOf (readLines L K n left bytes) ≡ Failed k
   unfolding readLines checkOf
   lines-fail zero some e = absurd (omega arith)
-  lines-fail (suc left) some e = ap checkOf (andThen-stops (readLine L K n bytes) _ (is-refused (readLine L K n bytes) e))
+  lines-fail (suc left) some e = ap checkOf (andThen-stops (readLine L K n bytes) _ (is-refused
+      (readLine L K n bytes) e))
 
   -- A line that passes leaves one fewer, behind it.
   pub lines-pass : (left : ℕ) → 0 < left → checkOf (readLine L K n bytes) ≡ Passed
@@ -73,7 +75,8 @@ module _ (L K n : ℕ) (bytes : List ℕ) where
 -- A line's record that stands there is checked by its fields.
 pub line-checked : (L K n : ℕ) (bytes : List ℕ) → isRecord markIN sizeIN bytes ≡ true
     → checkOf (readLine L K n bytes)
-    ≡ checkOf (fieldsToLine L K n (fieldsOf bytes .op) (fieldsOf bytes .reg) (fieldsOf bytes .target) (fieldsOf bytes .a) (fieldsOf bytes .b))
+    ≡ checkOf (fieldsToLine L K n (fieldsOf bytes .op) (fieldsOf bytes .reg) (fieldsOf bytes .target)
+    (fieldsOf bytes .a) (fieldsOf bytes .b))
 unfolding readLine check fieldsOf
 line-checked L K n bytes e = rw e (check-goes-on _ (λ line. (line, drop sizeIN bytes)))
 
@@ -83,16 +86,23 @@ module _ (L K : ℕ) (bytes : List ℕ) (at : ℕ)
   thread-lines : readThread L K (drop at bytes)
       ≡ readLines L K (getD bytes (at + 2) 0) (getD bytes (at + 2) 0) (drop (at + sizeTH) bytes)
   unfolding readThread check
-  thread-lines = rw (due, getD-drop at bytes 2 0, le-leb (getD bytes (at + 2) 0) maxLines few, drop-drop sizeTH at bytes)
+  thread-lines = rw (
+    due,
+    getD-drop at bytes 2 0,
+    le-leb (getD bytes (at + 2) 0) maxLines few,
+    drop-drop sizeTH at bytes,
+  )
 
-  pub thread-passed : (n : ℕ) → getD bytes (at + 2) 0 ≡ n → checkOf (readLines L K n n (drop (at + sizeTH) bytes)) ≡ Passed
+  pub thread-passed : (n : ℕ) → getD bytes (at + 2) 0 ≡ n → checkOf (readLines L K n n (drop
+      (at + sizeTH) bytes)) ≡ Passed
       → threadOf (readThread L K (drop at bytes)) ≡ Lines n
   unfolding threadOf
   thread-passed n is e =
       let (got, read) = is-accepted (readLines L K n n (drop (at + sizeTH) bytes)) e in
       rw (thread-lines, is, read) (ap Lines (lines-read L K n n (drop (at + sizeTH) bytes) read .counted))
 
-  pub thread-failed : (n : ℕ) {k : ℕ} → getD bytes (at + 2) 0 ≡ n → checkOf (readLines L K n n (drop (at + sizeTH) bytes)) ≡ Failed k
+  pub thread-failed : (n : ℕ) {k : ℕ} → getD bytes (at + 2) 0 ≡ n → checkOf (readLines L K n n (drop
+      (at + sizeTH) bytes)) ≡ Failed k
       → threadOf (readThread L K (drop at bytes)) ≡ Faulty k
   unfolding threadOf
   thread-failed n is e = rw (thread-lines, is, is-refused (readLines L K n n (drop (at + sizeTH) bytes)) e)

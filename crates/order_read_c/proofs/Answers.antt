@@ -20,7 +20,8 @@ use Rattle.order_read_c.specs.Answer.{numberOf, withHeader, headerAnswer
 use Rattle.order_read_c.specs.declared.HeaderAnswer.{HeaderAnswer}
 use Rattle.order_read_c.specs.declared.LineAnswer.{LineAnswer}
 
-header-of-outcome : (o : Outcome Program) → withHeader (numberOf (reading o .check)) (reading o .header) ≡ headerAnswer o
+header-of-outcome : (o : Outcome Program) → withHeader (numberOf (reading o .check))
+    (reading o .header) ≡ headerAnswer o
 unfolding reading numberOf headerAnswer
 header-of-outcome (refused k) = refl
 header-of-outcome (accepted p) = refl
@@ -36,7 +37,8 @@ none-of-outcome (refused k) t i e = refl
 none-of-outcome (accepted p) t i e = absurd (let z : _≡_ {A = ℕ} 0 1 = cc in omega arith)
 
 -- A refused input has no line.
-pub none-answered : (bytes : List ℕ) (r : Reading) (t i : ℕ) {k : ℕ} → r ≡ reading (readProgram bytes) → r .check ≡ Failed k
+pub none-answered : (bytes : List ℕ) (r : Reading) (t i : ℕ) {k : ℕ} → r ≡ reading
+    (readProgram bytes) → r .check ≡ Failed k
     → noLine ≡ lineAnswer (readProgram bytes) t i
 none-answered bytes r t i e failed =
     none-of-outcome (readProgram bytes) t i (ap (λ (x : Reading). x .check) (sym e) ∙ failed)
@@ -48,7 +50,10 @@ module _ (bytes : List ℕ) (h : Header) (is : Accepted bytes h) (t i : ℕ) whe
   pub thread-missing : h .threads ≤ t → noLine ≡ lineAnswer (readProgram bytes) t i
   unfolding lineAnswer
   thread-missing past =
-      sym (answer-is ∙ rw (le-ltb t (length (programOf bytes .threads)) (omega (arith, threads-counted bytes h is))))
+      sym (answer-is ∙ rw (le-ltb t (length (programOf bytes .threads)) (omega (
+        arith,
+        threads-counted bytes h is,
+      ))))
 
   module _ (there : t < h .threads) where
     pub thread-there : t < length (programOf bytes .threads)
@@ -66,7 +71,8 @@ module _ (bytes : List ℕ) (h : Header) (is : Accepted bytes h) (t i : ℕ) whe
     line-there less = omega (arith, lines-counted bytes h is t thread-there)
 
     pub line-answered : i < getD (h .counts) t 0
-        → lineFields (getD (linesOf (programOf bytes) t) i (wait 0 (constant 0))) ≡ lineAnswer (readProgram bytes) t i
+        → lineFields (getD (linesOf (programOf bytes) t) i (wait 0 (constant 0))) ≡ lineAnswer
+        (readProgram bytes) t i
     unfolding lineAnswer
     line-answered less =
         sym (answer-is ∙ rw (

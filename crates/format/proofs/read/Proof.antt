@@ -1,3 +1,4 @@
+-- `format::read` meets its contract. Checks 1 and 2, and then what `read_threads` ensures.
 use Rattle.program_bytes.proofs.HeaderLaws.{in-range}
 use Rattle.format.proofs.Turns.{record-fits}
 use Rattle.format.specs.Answer.{reading}
@@ -6,74 +7,90 @@ use Rattle.program_bytes.specs.Outcome.{check}
 use borrow.Author.Tests.{not-true, not-false}
 use denote.Ref.{now}
 use native.Mathlib.Omega.{arith}
-use mathlib.Core.Path.{_≡_, sym, _∙_, ap}
+use mathlib.Core.Path.{sym, _∙_}
 use borrow.Author.Needs.{needs, zero≤}
 use Rattle.format.proofs.read.Statement.{statement}
 use Rattle.format.proofs.read.Tie as tie
-use Rattle.format.proofs.read.Reads as reads
-use Rattle.format.proofs.read.Lts as lts
-use Rattle.format.proofs.are_in_range.Reads as are-in-range-reads
-use Rattle.format.proofs.checks.is_record.Reads as is-record-reads
-use Rattle.format.proofs.refused.Reads as refused-reads
-use Rattle.format.proofs.threads.read_threads.Reads as read-threads-reads
 
--- src/lib.rt:106:29
 slice-aggregate-is-record : tie.Need-slice-aggregate-is-record
 slice-aggregate-is-record c = search needs
 
--- src/lib.rt:106:9
 is-record-requires : tie.Need-is-record-requires
 is-record-requires c κs = search needs
 
--- src/lib.rt:107:9
 refused-requires : tie.Need-refused-requires
 refused-requires c κs = search needs
 
--- src/lib.rt:107:9
 returns : tie.Need-returns
 unfolding readProgram check reading
 returns c =
     c .refused .ensures ∙ rw (sym (c .before .before .is-record .ensures) ∙ not-true _ (c .before .if1 .taken))
 
--- src/lib.rt:109:13
 shared-slice-read-t : tie.Need-shared-slice-read-t
 shared-slice-read-t c =
-    omega (arith, record-fits markPR (now (c .before .before .before .before .before .args .bytes)) 0 5 zero≤ (sym (c .before .before .is-record .ensures) ∙ not-false _ (c .before .if1 .left)))
+    omega (
+      arith,
+      record-fits markPR (now (c .before .before .before .before .before .args .bytes)) 0 5 zero≤ (sym
+          (c .before .before .is-record .ensures) ∙ not-false _ (c .before .if1 .left)),
+    )
 
--- src/lib.rt:110:13
 shared-slice-read-l : tie.Need-shared-slice-read-l
 shared-slice-read-l c =
-    omega (arith, record-fits markPR (now (c .before .before .before .before .before .before .args .bytes)) 0 5 zero≤ (sym (c .before .before .before .is-record .ensures) ∙ not-false _ (c .before .before .if1 .left)))
+    omega (
+      arith,
+      record-fits markPR (now
+          (c .before .before .before .before .before .before .args .bytes)) 0 5 zero≤ (sym
+          (c .before .before .before .is-record .ensures) ∙ not-false _ (c .before .before .if1 .left)),
+    )
 
--- src/lib.rt:111:13
 shared-slice-read-k : tie.Need-shared-slice-read-k
 shared-slice-read-k c =
-    omega (arith, record-fits markPR (now (c .before .before .before .before .before .before .before .args .bytes)) 0 5 zero≤ (sym (c .before .before .before .before .is-record .ensures) ∙ not-false _ (c .before .before .before .if1 .left)))
+    omega (
+      arith,
+      record-fits markPR (now
+          (c .before .before .before .before .before .before .before .args .bytes)) 0 5 zero≤ (sym
+          (c .before .before .before .before .is-record .ensures) ∙ not-false _ (c .before .before .before .if1 .left)),
+    )
 
--- src/lib.rt:112:9
 are-in-range-requires : tie.Need-are-in-range-requires
 are-in-range-requires c κs = search needs
 
--- src/lib.rt:113:9
 refused-requires-2 : tie.Need-refused-requires-2
 refused-requires-2 c κs = search needs
 
--- src/lib.rt:113:9
 returns-2 : tie.Need-returns-2
 unfolding readProgram check reading
 returns-2 c =
-    c .refused2 .ensures ∙ rw ((sym (c .before .before .before .before .before .before .before .is-record .ensures) ∙ not-false _ (c .before .before .before .before .before .before .if1 .left)), sym (c .before .before .are-in-range .ensures) ∙ not-true _ (c .before .if2 .taken))
+    c .refused2 .ensures ∙ rw (
+      (sym (c .before .before .before .before .before .before .before .is-record .ensures)
+          ∙ not-false _ (c .before .before .before .before .before .before .if1 .left)),
+      sym
+          (c .before .before .are-in-range .ensures) ∙ not-true _ (c .before .if2 .taken),
+    )
 
--- src/lib.rt:115:5
 read-threads-requires : tie.Need-read-threads-requires
-read-threads-requires c κs =
-    (omega (arith, record-fits markPR (now (c .before .before .before .before .before .before .before .before .before .args .bytes)) 0 5 zero≤ (sym (c .before .before .before .before .before .before .is-record .ensures) ∙ not-false _ (c .before .before .before .before .before .if1 .left))), in-range _ _ _ (sym (c .before .are-in-range .ensures) ∙ not-false _ (c .if2 .left)) .few-threads)
+read-threads-requires c κs = (
+  omega (
+    arith,
+    record-fits markPR (now
+        (c .before .before .before .before .before .before .before .before .before .args .bytes)) 0 5 zero≤ (sym
+        (c .before .before .before .before .before .before .is-record .ensures) ∙ not-false _
+        (c .before .before .before .before .before .if1 .left)),
+  ),
+  in-range _ _ _ (sym
+      (c .before .are-in-range .ensures) ∙ not-false _ (c .if2 .left)) .few-threads,
+)
 
--- src/lib.rt:103:1
 returns-3 : tie.Need-returns-3
 unfolding readProgram check reading
 returns-3 c =
-    c .read-threads .ensures ∙ rw ((sym (c .before .before .before .before .before .before .before .is-record .ensures) ∙ not-false _ (c .before .before .before .before .before .before .if1 .left)), sym (c .before .before .are-in-range .ensures) ∙ not-false _ (c .before .if2 .left))
+    c .read-threads .ensures ∙ rw (
+      (sym
+          (c .before .before .before .before .before .before .before .is-record .ensures) ∙ not-false _
+          (c .before .before .before .before .before .before .if1 .left)),
+      sym
+          (c .before .before .are-in-range .ensures) ∙ not-false _ (c .before .if2 .left),
+    )
 
 pub read-spec : {M : Type 1} → statement M
 read-spec =

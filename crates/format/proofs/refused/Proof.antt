@@ -1,23 +1,19 @@
-use Prim.Native.Nat.{ℕ}
-use mathlib.Core.Path.{_≡_, ap}
+-- `format::refused` meets its contract. It is the definition, with the header of no program.
+use mathlib.Core.Path.{ap}
 use Rattle.format.specs.declared.Reading.{Reading}
 use Rattle.format.specs.declared.Header.{Header}
 use Rattle.format.specs.declared.Check.the-variants.{Failed}
 use borrow.Author.Needs.{needs}
 use Rattle.format.proofs.refused.Statement.{statement}
 use Rattle.format.proofs.refused.Tie as tie
-use Rattle.format.proofs.refused.Reads as reads
-use Rattle.format.proofs.refused.Lts as lts
-use Rattle.format.proofs.no_header.Reads as no-header-reads
 
--- src/lib.rt:76:17
 no-header-requires : tie.Need-no-header-requires
 no-header-requires c κs = search needs
 
--- src/lib.rt:71:1
 returns : tie.Need-returns
 returns c =
-    ap (λ (h : Header). let r : Reading = record { check = Failed (c .before .args .number); header = h } in r) (c .no-header .ensures)
+    ap (λ (h : Header). let r : Reading = record { check = Failed (c .before .args .number); header = h } in r)
+    (c .no-header .ensures)
 
 pub refused-spec : {M : Type 1} → statement M
 refused-spec = tie.close (tie.spec no-header-requires returns)

@@ -1,106 +1,110 @@
+-- `order_read_c::order_line` meets its contract. The tests say whether there is such a line; then `line_at` gives it.
 use Rattle.program.specs.Program.Line.{wait}
 use Rattle.program.specs.Program.Operand.{constant}
 use Rattle.order_read_c.proofs.Answers.{none-answered, thread-missing, thread-there, line-missing, line-there, line-answered}
 use Rattle.format.proofs.AcceptedHeader.{passed-is-accepted, accepted-within}
 use native.Mathlib.Omega.{arith}
 use denote.Ref.{now}
-use mathlib.Core.Path.{_≡_, refl, sym, _∙_, ap}
-use Rattle.format.specs.Answer.{operandMeans, lineMeans}
-use Rattle.order_read_c.specs.Answer.{operandAnswer, makeLine, noLine, lineFields, lineAnswer}
+use mathlib.Core.Path.{_∙_, ap}
+use Rattle.order_read_c.specs.Answer.{lineFields}
 use borrow.Author.Needs.{needs}
 use Rattle.order_read_c.proofs.order_line.Statement.{statement}
 use Rattle.order_read_c.proofs.order_line.Tie as tie
-use Rattle.order_read_c.proofs.order_line.Reads as reads
-use Rattle.order_read_c.proofs.order_line.Lts as lts
-use Rattle.format.proofs.line_at.Reads as line-at-reads
-use Rattle.format.proofs.read.Reads as read-reads
-use Rattle.order_read_c.proofs.fields_of.Reads as fields-of-reads
-use Rattle.order_read_c.proofs.no_line.Reads as no-line-reads
 
--- src/lib.rt:126:9
 read-requires : tie.Need-read-requires
 read-requires c κs = search needs
 
--- src/lib.rt:131:29
 enum-told : tie.Need-enum-told
 enum-told c = search needs
 
--- src/lib.rt:131:29
 no-line-requires : tie.Need-no-line-requires
 no-line-requires c κs = search needs
 
--- src/lib.rt:133:16
 enum-told-2 : tie.Need-enum-told-2
 enum-told-2 c = search needs
 
--- src/lib.rt:134:17
 no-line-requires-2 : tie.Need-no-line-requires-2
 no-line-requires-2 c κs = search needs
 
--- src/lib.rt:134:17
 returns : tie.Need-returns
 returns c =
     let a = c .before .before .before .before .before .before .before .before .before .args in
     let r = c .before .before .before .before .before .before .before .read in
-    let is = passed-is-accepted (now (a .program)) (r .result) (r .ensures) (c .before .before .before .enum-told2 .given .1) in
-    c .no-line2 .ensures ∙ thread-missing (now (a .program)) (r .result .header) is (a .thread) (a .line) (c .before .if1 .taken)
+    let is = passed-is-accepted (now (a .program)) (r .result) (r .ensures)
+    (c .before .before .before .enum-told2 .given .1) in
+    c .no-line2 .ensures ∙ thread-missing (now (a .program)) (r .result .header) is (a .thread) (a .line)
+    (c .before .if1 .taken)
 
--- src/lib.rt:136:16
 mul-if2 : tie.Need-mul-if2
 mul-if2 c =
     let a = c .before .before .before .before .before .before .before .before .args in
     let r = c .before .before .before .before .before .before .read in
-    let is = passed-is-accepted (now (a .program)) (r .result) (r .ensures) (c .before .before .enum-told2 .given .1) in
-    omega (arith, thread-there (now (a .program)) (r .result .header) is (a .thread) (a .line) (c .if1 .left), accepted-within (now (a .program)) (r .result .header) is .few-threads)
+    let is = passed-is-accepted (now (a .program)) (r .result) (r .ensures)
+    (c .before .before .enum-told2 .given .1) in
+    omega (
+      arith,
+      thread-there (now (a .program)) (r .result .header) is (a .thread) (a .line) (c .if1 .left),
+      accepted-within (now (a .program)) (r .result .header) is .few-threads,
+    )
 
--- src/lib.rt:136:16
 array-read-if2 : tie.Need-array-read-if2
 array-read-if2 c =
     let a = c .before .before .before .before .before .before .before .before .args in
     let r = c .before .before .before .before .before .before .read in
-    let is = passed-is-accepted (now (a .program)) (r .result) (r .ensures) (c .before .before .enum-told2 .given .1) in
-    omega (arith, thread-there (now (a .program)) (r .result .header) is (a .thread) (a .line) (c .if1 .left), accepted-within (now (a .program)) (r .result .header) is .few-threads)
+    let is = passed-is-accepted (now (a .program)) (r .result) (r .ensures)
+    (c .before .before .enum-told2 .given .1) in
+    omega (
+      arith,
+      thread-there (now (a .program)) (r .result .header) is (a .thread) (a .line) (c .if1 .left),
+      accepted-within (now (a .program)) (r .result .header) is .few-threads,
+    )
 
--- src/lib.rt:137:17
 no-line-requires-3 : tie.Need-no-line-requires-3
 no-line-requires-3 c κs = search needs
 
--- src/lib.rt:137:17
 returns-2 : tie.Need-returns-2
 returns-2 c =
     let a = c .before .before .before .before .before .before .before .before .before .before .args in
     let r = c .before .before .before .before .before .before .before .before .read in
-    let is = passed-is-accepted (now (a .program)) (r .result) (r .ensures) (c .before .before .before .before .enum-told2 .given .1) in
-    c .no-line3 .ensures ∙ line-missing (now (a .program)) (r .result .header) is (a .thread) (a .line) (c .before .before .if1 .left) (c .before .if2 .taken)
+    let is = passed-is-accepted (now (a .program)) (r .result) (r .ensures)
+    (c .before .before .before .before .enum-told2 .given .1) in
+    c .no-line3 .ensures ∙ line-missing (now (a .program)) (r .result .header) is (a .thread) (a .line)
+    (c .before .before .if1 .left) (c .before .if2 .taken)
 
--- src/lib.rt:139:23
 line-at-requires : tie.Need-line-at-requires
 line-at-requires c κs =
     let a = c .before .before .before .before .before .before .before .before .before .args in
     let r = c .before .before .before .before .before .before .before .read in
-    let is = passed-is-accepted (now (a .program)) (r .result) (r .ensures) (c .before .before .before .enum-told2 .given .1) in
-    (is, (thread-there (now (a .program)) (r .result .header) is (a .thread) (a .line) (c .before .if1 .left), line-there (now (a .program)) (r .result .header) is (a .thread) (a .line) (c .before .if1 .left) (c .if2 .left)))
+    let is = passed-is-accepted (now (a .program)) (r .result) (r .ensures)
+    (c .before .before .before .enum-told2 .given .1) in (
+      is,
+      (
+        thread-there (now (a .program)) (r .result .header) is (a .thread) (a .line) (c .before .if1 .left),
+        line-there (now (a .program)) (r .result .header) is (a .thread) (a .line) (c .before .if1 .left)
+            (c .if2 .left),
+      ),
+    )
 
--- src/lib.rt:139:13
 fields-of-requires : tie.Need-fields-of-requires
 fields-of-requires c κs = search needs
 
--- src/lib.rt:122:1
 returns-3 : tie.Need-returns-3
 returns-3 c =
     let a = c .before .before .before .before .before .before .before .args in
     let r = c .before .before .before .before .before .read in
-    c .no-line .ensures ∙ none-answered (now (a .program)) (r .result) (a .thread) (a .line) (r .ensures) (c .before .enum-told .given .1)
+    c .no-line .ensures ∙ none-answered (now (a .program)) (r .result) (a .thread) (a .line) (r .ensures)
+    (c .before .enum-told .given .1)
 
--- src/lib.rt:122:1
 returns-4 : tie.Need-returns-4
 returns-4 c =
     let a = c .before .before .before .before .before .before .before .before .before .before .before .args in
     let r = c .before .before .before .before .before .before .before .before .before .read in
-    let is = passed-is-accepted (now (a .program)) (r .result) (r .ensures) (c .before .before .before .before .before .enum-told2 .given .1) in
+    let is = passed-is-accepted (now (a .program)) (r .result) (r .ensures)
+    (c .before .before .before .before .before .enum-told2 .given .1) in
     c .fields-of .ensures
     ∙ ap lineFields (c .before .line-at .ensures (wait 0 (constant 0)))
-    ∙ line-answered (now (a .program)) (r .result .header) is (a .thread) (a .line) (c .before .before .before .if1 .left) (c .before .before .if2 .left)
+    ∙ line-answered (now (a .program)) (r .result .header) is (a .thread) (a .line)
+    (c .before .before .before .if1 .left) (c .before .before .if2 .left)
 
 pub order-line-spec : {M : Type 1} → statement M
 order-line-spec =

@@ -1,41 +1,41 @@
+-- `format::checks::are_operands` meets its contract. The two tests of check 8 in turn.
 use borrow.Author.Tests.{not-true, not-false}
-use mathlib.Core.Path.{sym, _∙_, ap}
-use Rattle.format.proofs.RowTests.{five-tests, two-tests, target-of-row}
+use mathlib.Core.Path.{sym, _∙_}
+use Rattle.format.proofs.RowTests.{two-tests}
 use borrow.Author.Needs.{needs}
 use Rattle.format.proofs.checks.are_operands.Statement.{statement}
 use Rattle.format.proofs.checks.are_operands.Tie as tie
-use Rattle.format.proofs.checks.are_operands.Reads as reads
-use Rattle.format.proofs.checks.are_operands.Lts as lts
-use Rattle.format.proofs.checks.is_operand.Reads as is-operand-reads
-use Rattle.format.proofs.checks.when_used.Reads as when-used-reads
 
--- src/checks.rt:195:24
 is-operand-requires : tie.Need-is-operand-requires
 is-operand-requires c κs = search needs
 
--- src/checks.rt:195:9
 when-used-requires : tie.Need-when-used-requires
 when-used-requires c κs = search needs
 
--- src/checks.rt:196:9
 returns : tie.Need-returns
 returns c =
     let s = c .before .before .before in
-    sym (two-tests (s .args .r) (s .args .f) (s .pre) (s .args .k) ∙ rw (← c .before .before .is-operand .ensures, (sym (c .before .when-used .ensures) ∙ not-true _ (c .if1 .taken))))
+    sym (two-tests (s .args .r) (s .args .f) (s .pre) (s .args .k) ∙ rw (
+      ← c .before .before .is-operand .ensures,
+      (sym (c .before .when-used .ensures) ∙ not-true _ (c .if1 .taken)),
+    ))
 
--- src/checks.rt:198:20
 is-operand-requires-2 : tie.Need-is-operand-requires-2
 is-operand-requires-2 c κs = search needs
 
--- src/checks.rt:198:5
 when-used-requires-2 : tie.Need-when-used-requires-2
 when-used-requires-2 c κs = search needs
 
--- src/checks.rt:191:1
 returns-2 : tie.Need-returns-2
 returns-2 c =
     let s = c .before .before .before .before .before in
-    sym (two-tests (s .args .r) (s .args .f) (s .pre) (s .args .k) ∙ rw (← c .before .before .before .before .is-operand .ensures, (sym (c .before .before .before .when-used .ensures) ∙ not-false _ (c .before .before .if1 .left)), ← c .before .is-operand2 .ensures, ← c .when-used2 .ensures))
+    sym (two-tests (s .args .r) (s .args .f) (s .pre) (s .args .k) ∙ rw (
+      ← c .before .before .before .before .is-operand .ensures,
+      (sym
+          (c .before .before .before .when-used .ensures) ∙ not-false _ (c .before .before .if1 .left)),
+      ← c .before .is-operand2 .ensures,
+      ← c .when-used2 .ensures,
+    ))
 
 pub are-operands-spec : {M : Type 1} → statement M
 are-operands-spec =

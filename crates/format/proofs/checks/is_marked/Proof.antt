@@ -1,3 +1,4 @@
+-- `format::checks::is_marked` meets its contract. The two bytes of the mark are compared one by one.
 use Rattle.format.proofs.AtCursor.{two-marks}
 use borrow.Author.Tests.{eq-eqb, ne-eqb}
 use denote.Ref.{now}
@@ -5,40 +6,33 @@ use mathlib.Core.Path.{sym, _∙_}
 use borrow.Author.Needs.{needs}
 use Rattle.format.proofs.checks.is_marked.Statement.{statement}
 use Rattle.format.proofs.checks.is_marked.Tie as tie
-use Rattle.format.proofs.checks.is_marked.Reads as reads
-use Rattle.format.proofs.checks.is_marked.Lts as lts
 
--- src/checks.rt:14:8
 shared-slice-read-if1 : tie.Need-shared-slice-read-if1
 shared-slice-read-if1 c = search needs
 
--- src/checks.rt:14:21
 shared-slice-read-if1-2 : tie.Need-shared-slice-read-if1-2
 shared-slice-read-if1-2 c = search needs
 
--- src/checks.rt:15:9
 returns : tie.Need-returns
 returns c =
     let a = c .before .before .before .args in
-    sym (two-marks (now (a .mark)) (now (a .bytes)) (a .at) (search needs) (search needs) ∙ rw (ne-eqb _ _ (c .if1 .taken)))
+    sym (two-marks (now (a .mark)) (now (a .bytes)) (a .at) (search needs) (search needs) ∙ rw (ne-eqb _ _
+    (c .if1 .taken)))
 
--- src/checks.rt:17:11
 add-result : tie.Need-add-result
 add-result c = search needs
 
--- src/checks.rt:17:5
 shared-slice-read-result : tie.Need-shared-slice-read-result
 shared-slice-read-result c = search needs
 
--- src/checks.rt:17:22
 shared-slice-read-result-2 : tie.Need-shared-slice-read-result-2
 shared-slice-read-result-2 c = search needs
 
--- src/checks.rt:10:1
 returns-2 : tie.Need-returns-2
 returns-2 c =
     let a = c .before .before .before .before .before .args in
-    sym (two-marks (now (a .mark)) (now (a .bytes)) (a .at) (search needs) (search needs) ∙ rw (eq-eqb _ _ (c .before .before .if1 .left)))
+    sym (two-marks (now (a .mark)) (now (a .bytes)) (a .at) (search needs) (search needs) ∙ rw (eq-eqb _ _
+    (c .before .before .if1 .left)))
 
 pub is-marked-spec : {M : Type 1} → statement M
 is-marked-spec =

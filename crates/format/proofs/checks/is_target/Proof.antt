@@ -1,36 +1,29 @@
-use Rattle.format.specs.Answer.{targetMeans, targetOf, rowOf, checkOf}
-use Rattle.program_bytes.specs.Format.{whenUsed, zeroUnlessUsed, usesTarget, isTarget, isOperand, isRegAndRest, areOperands, fieldsToLine}
+-- `format::checks::is_target` meets its contract. By cases on the target.
+use Rattle.format.specs.Answer.{targetMeans}
+use Rattle.program_bytes.specs.Format.{isTarget}
 use borrow.Author.Needs.{needs}
 use Rattle.format.proofs.checks.is_target.Statement.{statement}
 use Rattle.format.proofs.checks.is_target.Tie as tie
-use Rattle.format.proofs.checks.is_target.Reads as reads
-use Rattle.format.proofs.checks.is_target.Lts as lts
 
--- src/checks.rt:171:29
 enum-told : tie.Need-enum-told
 enum-told c = search needs
 
--- src/checks.rt:172:31
 enum-told-2 : tie.Need-enum-told-2
 enum-told-2 c = search needs
 
--- src/checks.rt:173:27
 enum-told-3 : tie.Need-enum-told-3
 enum-told-3 c = search needs
 
--- src/checks.rt:167:1
 returns : tie.Need-returns
 unfolding isTarget targetMeans
 returns c =
     rw (c .enum-told .given .1)
 
--- src/checks.rt:167:1
 returns-2 : tie.Need-returns-2
 unfolding isTarget targetMeans
 returns-2 c =
     rw (c .enum-told2 .given .1)
 
--- src/checks.rt:167:1
 returns-3 : tie.Need-returns-3
 unfolding isTarget targetMeans
 returns-3 c =

@@ -1,109 +1,87 @@
+-- `format::checks::row_of` meets its contract. Each arm is its row of the op table; what is no op has the first row.
 use Rattle.format.proofs.FirstRow.{first-row}
 use Rattle.format.specs.Answer.{rowOf, targetOf}
 use Rattle.program_bytes.specs.Ops.{opTable, opAt, sumOp}
-use mathlib.Core.Path.{sym, _∙_, ap}
+use mathlib.Core.Path.{_∙_}
 use borrow.Author.Needs.{needs}
 use Rattle.format.proofs.checks.row_of.Statement.{statement}
 use Rattle.format.proofs.checks.row_of.Tie as tie
-use Rattle.format.proofs.checks.row_of.Reads as reads
-use Rattle.format.proofs.checks.row_of.Lts as lts
-use Rattle.format.proofs.checks.uses.Reads as uses-reads
 
--- src/checks.rt:76:14
 uses-requires : tie.Need-uses-requires
 uses-requires c κs = search needs
 
--- src/checks.rt:77:14
 uses-requires-2 : tie.Need-uses-requires-2
 uses-requires-2 c κs = search needs
 
--- src/checks.rt:78:14
 uses-requires-3 : tie.Need-uses-requires-3
 uses-requires-3 c κs = search needs
 
--- src/checks.rt:79:14
 uses-requires-4 : tie.Need-uses-requires-4
 uses-requires-4 c κs = search needs
 
--- src/checks.rt:80:14
 uses-requires-5 : tie.Need-uses-requires-5
 uses-requires-5 c κs = search needs
 
--- src/checks.rt:81:14
 uses-requires-6 : tie.Need-uses-requires-6
 uses-requires-6 c κs = search needs
 
--- src/checks.rt:82:14
 uses-requires-7 : tie.Need-uses-requires-7
 uses-requires-7 c κs = search needs
 
--- src/checks.rt:83:14
 uses-requires-8 : tie.Need-uses-requires-8
 uses-requires-8 c κs = search needs
 
--- src/checks.rt:84:15
 uses-requires-9 : tie.Need-uses-requires-9
 uses-requires-9 c κs = search needs
 
--- src/checks.rt:85:14
 uses-requires-10 : tie.Need-uses-requires-10
 uses-requires-10 c κs = search needs
 
--- src/checks.rt:72:1
 returns : tie.Need-returns
 unfolding rowOf opAt opTable targetOf
 returns c =
     c .uses .ensures ∙ rw (c .before .match .keys1)
 
--- src/checks.rt:72:1
 returns-2 : tie.Need-returns-2
 unfolding rowOf opAt opTable targetOf
 returns-2 c =
     c .uses2 .ensures ∙ rw (c .before .match .keys2)
 
--- src/checks.rt:72:1
 returns-3 : tie.Need-returns-3
 unfolding rowOf opAt opTable targetOf
 returns-3 c =
     c .uses3 .ensures ∙ rw (c .before .match .keys3)
 
--- src/checks.rt:72:1
 returns-4 : tie.Need-returns-4
 unfolding rowOf opAt opTable targetOf
 returns-4 c =
     c .uses4 .ensures ∙ rw (c .before .match .keys4)
 
--- src/checks.rt:72:1
 returns-5 : tie.Need-returns-5
 unfolding rowOf opAt opTable targetOf
 returns-5 c =
     c .uses5 .ensures ∙ rw (c .before .match .keys5)
 
--- src/checks.rt:72:1
 returns-6 : tie.Need-returns-6
 unfolding rowOf opAt opTable targetOf
 returns-6 c =
     c .uses6 .ensures ∙ rw (c .before .match .keys6)
 
--- src/checks.rt:72:1
 returns-7 : tie.Need-returns-7
 unfolding rowOf opAt opTable targetOf
 returns-7 c =
     c .uses7 .ensures ∙ rw (c .before .match .keys7)
 
--- src/checks.rt:72:1
 returns-8 : tie.Need-returns-8
 unfolding rowOf opAt opTable targetOf
 returns-8 c =
     c .uses8 .ensures ∙ rw (c .before .match .keys8)
 
--- src/checks.rt:72:1
 returns-9 : tie.Need-returns-9
 unfolding rowOf opAt opTable targetOf
 returns-9 c =
     c .uses9 .ensures ∙ rw (c .before .match .keys9)
 
--- src/checks.rt:72:1
 returns-10 : tie.Need-returns-10
 unfolding rowOf sumOp targetOf
 returns-10 c =

@@ -1,17 +1,13 @@
-use Rattle.program_bytes.specs.Format.{whenUsed, zeroUnlessUsed, usesTarget, isTarget, isOperand, isRegAndRest, areOperands, fieldsToLine}
-use borrow.Author.Needs.{needs}
+-- `format::checks::when_used` meets its contract. By cases on the flag.
+use Rattle.program_bytes.specs.Format.{whenUsed}
 use Rattle.format.proofs.checks.when_used.Statement.{statement}
 use Rattle.format.proofs.checks.when_used.Tie as tie
-use Rattle.format.proofs.checks.when_used.Reads as reads
-use Rattle.format.proofs.checks.when_used.Lts as lts
 
--- src/checks.rt:115:1
 returns : tie.Need-returns
 unfolding whenUsed
 returns c =
     rw (c .if1 .taken)
 
--- src/checks.rt:115:1
 returns-2 : tie.Need-returns-2
 unfolding whenUsed
 returns-2 c =

@@ -1,3 +1,4 @@
+-- `format::lines::check_line` meets its contract. Check 3, and then what `check_fields` ensures of the fields.
 use Rattle.format.proofs.Turns.{record-fits, line-checked}
 use Rattle.format.specs.declared.checks.Fields.{Fields}
 use Rattle.format.specs.Answer.{checkOf}
@@ -10,43 +11,35 @@ use mathlib.Core.Path.{sym, _∙_, ap}
 use borrow.Author.Needs.{needs}
 use Rattle.format.proofs.lines.check_line.Statement.{statement}
 use Rattle.format.proofs.lines.check_line.Tie as tie
-use Rattle.format.proofs.lines.check_line.Reads as reads
-use Rattle.format.proofs.lines.check_line.Lts as lts
-use Rattle.format.proofs.checks.check_fields.Reads as check-fields-reads
-use Rattle.format.proofs.checks.is_record.Reads as is-record-reads
-use Rattle.format.proofs.lines.fields_at.Reads as fields-at-reads
 
--- src/lines.rt:39:30
 slice-aggregate-is-record : tie.Need-slice-aggregate-is-record
 slice-aggregate-is-record c = search needs
 
--- src/lines.rt:39:9
 is-record-requires : tie.Need-is-record-requires
 is-record-requires c κs = search needs
 
--- src/lines.rt:40:9
 returns : tie.Need-returns
 unfolding readLine check checkOf
 returns c =
     rw (sym (c .before .is-record .ensures) ∙ not-true _ (c .if1 .taken))
 
--- src/lines.rt:42:18
 fields-at-requires : tie.Need-fields-at-requires
 fields-at-requires c κs =
     let s = c .before .before .before .before in
-    record-fits markIN (now (s .args .bytes)) (s .args .at) 7 (s .pre) (sym (c .before .is-record .ensures) ∙ not-false _ (c .if1 .left))
+    record-fits markIN (now (s .args .bytes)) (s .args .at) 7 (s .pre) (sym (c .before .is-record .ensures)
+    ∙ not-false _ (c .if1 .left))
 
--- src/lines.rt:42:5
 check-fields-requires : tie.Need-check-fields-requires
 check-fields-requires c κs = search needs
 
--- src/lines.rt:35:1
 returns-2 : tie.Need-returns-2
 returns-2 c =
     let a = c .before .before .before .before .before .before .args in
     c .check-fields .ensures
-    ∙ ap (λ (f : Fields). checkOf (fieldsToLine (a .l) (a .k) (a .n) (f .op) (f .reg) (f .target) (f .a) (f .b))) (c .before .fields-at .ensures)
-    ∙ sym (line-checked (a .l) (a .k) (a .n) (drop (a .at) (now (a .bytes))) (sym (c .before .before .before .is-record .ensures) ∙ not-false _ (c .before .before .if1 .left)))
+    ∙ ap (λ (f : Fields). checkOf (fieldsToLine (a .l) (a .k) (a .n) (f .op) (f .reg) (f .target) (f .a) (f .b)))
+    (c .before .fields-at .ensures)
+    ∙ sym (line-checked (a .l) (a .k) (a .n) (drop (a .at) (now (a .bytes))) (sym
+    (c .before .before .before .is-record .ensures) ∙ not-false _ (c .before .before .if1 .left)))
 
 pub check-line-spec : {M : Type 1} → statement M
 check-line-spec =

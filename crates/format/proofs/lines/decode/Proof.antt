@@ -1,84 +1,68 @@
+-- `format::lines::decode` meets its contract. Each arm is its row of the op table; what is no op has the first row.
 use Rattle.format.proofs.FirstRow.{first-row}
 use Rattle.format.specs.Answer.{lineMeans}
 use Rattle.program_bytes.specs.Ops.{opTable, opAt, sumOp}
 use borrow.Author.Needs.{needs}
 use Rattle.format.proofs.lines.decode.Statement.{statement}
 use Rattle.format.proofs.lines.decode.Tie as tie
-use Rattle.format.proofs.lines.decode.Reads as reads
-use Rattle.format.proofs.lines.decode.Lts as lts
-use Rattle.format.proofs.lines.operand_of.Reads as operand-of-reads
 
--- src/lines.rt:86:15
 cast-reg : tie.Need-cast-reg
 cast-reg c = search needs
 
--- src/lines.rt:87:18
 cast-target : tie.Need-cast-target
 cast-target c = search needs
 
--- src/lines.rt:88:9
 operand-of-requires : tie.Need-operand-of-requires
 operand-of-requires c κs = search needs
 
--- src/lines.rt:89:9
 operand-of-requires-2 : tie.Need-operand-of-requires-2
 operand-of-requires-2 c κs = search needs
 
--- src/lines.rt:82:1
 returns : tie.Need-returns
 unfolding lineMeans opAt opTable
 returns c =
     rw (c .match .keys1, c .before .before .operand-of .ensures, c .before .operand-of2 .ensures)
 
--- src/lines.rt:82:1
 returns-2 : tie.Need-returns-2
 unfolding lineMeans opAt opTable
 returns-2 c =
     rw (c .match .keys2, c .before .before .operand-of .ensures, c .before .operand-of2 .ensures)
 
--- src/lines.rt:82:1
 returns-3 : tie.Need-returns-3
 unfolding lineMeans opAt opTable
 returns-3 c =
     rw (c .match .keys3, c .before .before .operand-of .ensures)
 
--- src/lines.rt:82:1
 returns-4 : tie.Need-returns-4
 unfolding lineMeans opAt opTable
 returns-4 c =
     rw (c .match .keys4, c .before .before .operand-of .ensures)
 
--- src/lines.rt:82:1
 returns-5 : tie.Need-returns-5
 unfolding lineMeans opAt opTable
 returns-5 c =
     rw (c .match .keys5)
 
--- src/lines.rt:82:1
 returns-6 : tie.Need-returns-6
 unfolding lineMeans opAt opTable
 returns-6 c =
     rw (c .match .keys6, c .before .before .operand-of .ensures)
 
--- src/lines.rt:82:1
 returns-7 : tie.Need-returns-7
 unfolding lineMeans opAt opTable
 returns-7 c =
     rw (c .match .keys7, c .before .before .operand-of .ensures, c .before .operand-of2 .ensures)
 
--- src/lines.rt:82:1
 returns-8 : tie.Need-returns-8
 unfolding lineMeans opAt opTable
 returns-8 c =
     rw (c .match .keys8, c .before .before .operand-of .ensures)
 
--- src/lines.rt:82:1
 returns-9 : tie.Need-returns-9
 unfolding lineMeans opAt opTable
 returns-9 c =
     rw (c .match .keys9, c .before .before .operand-of .ensures, c .before .operand-of2 .ensures)
 
--- src/lines.rt:82:1
 returns-10 : tie.Need-returns-10
 unfolding lineMeans sumOp
 returns-10 c =

@@ -1,52 +1,40 @@
+-- `format::lines::fields_at` meets its contract. A byte behind the cursor is a byte of the rest.
 use lib.Seq.{getD-drop}
 use Rattle.format.specs.Answer.{fieldsOf}
 use borrow.Author.Needs.{needs}
 use Rattle.format.proofs.lines.fields_at.Statement.{statement}
 use Rattle.format.proofs.lines.fields_at.Tie as tie
-use Rattle.format.proofs.lines.fields_at.Reads as reads
-use Rattle.format.proofs.lines.fields_at.Lts as lts
 
--- src/lines.rt:26:19
 add-t3 : tie.Need-add-t3
 add-t3 c = search needs
 
--- src/lines.rt:26:13
 shared-slice-read-t5 : tie.Need-shared-slice-read-t5
 shared-slice-read-t5 c = search needs
 
--- src/lines.rt:27:20
 add-t6 : tie.Need-add-t6
 add-t6 c = search needs
 
--- src/lines.rt:27:14
 shared-slice-read-t8 : tie.Need-shared-slice-read-t8
 shared-slice-read-t8 c = search needs
 
--- src/lines.rt:28:23
 add-t9 : tie.Need-add-t9
 add-t9 c = search needs
 
--- src/lines.rt:28:17
 shared-slice-read-t11 : tie.Need-shared-slice-read-t11
 shared-slice-read-t11 c = search needs
 
--- src/lines.rt:29:18
 add-t12 : tie.Need-add-t12
 add-t12 c = search needs
 
--- src/lines.rt:29:12
 shared-slice-read-t14 : tie.Need-shared-slice-read-t14
 shared-slice-read-t14 c = search needs
 
--- src/lines.rt:30:18
 add-t15 : tie.Need-add-t15
 add-t15 c = search needs
 
--- src/lines.rt:30:12
 shared-slice-read-t17 : tie.Need-shared-slice-read-t17
 shared-slice-read-t17 c = search needs
 
--- src/lines.rt:21:1
 returns : tie.Need-returns
 unfolding fieldsOf
 returns c =

@@ -1,83 +1,98 @@
+-- `format::threads::read_thread` meets its contract. Checks 3 and 4, and then what `check_lines` ensures.
 use Rattle.format.proofs.Turns.{record-fits, thread-passed, thread-failed}
 use Rattle.format.specs.Answer.{threadOf}
-use Rattle.program_bytes.specs.Format.{markTH, readThread, readLines}
+use Rattle.program_bytes.specs.Format.{markTH, readThread}
 use Rattle.program_bytes.specs.Outcome.{check}
-use borrow.Author.Tests.{not-true, not-false, lt-leb, le-leb}
-use lib.Seq.{getD-drop, drop-drop}
-use lib.ListN.{drop, getD}
+use borrow.Author.Tests.{not-true, not-false, lt-leb}
+use lib.Seq.{getD-drop}
 use denote.Ref.{now}
 use native.Mathlib.Omega.{arith}
-use Prim.Native.Nat.{ℕ, _+_}
-use mathlib.Core.List.{List}
-use mathlib.Core.Path.{_≡_, refl, sym, _∙_, ap, subst}
+use mathlib.Core.Path.{refl, sym, _∙_}
 use borrow.Author.Needs.{needs}
 use Rattle.format.proofs.threads.read_thread.Statement.{statement}
 use Rattle.format.proofs.threads.read_thread.Tie as tie
-use Rattle.format.proofs.threads.read_thread.Reads as reads
-use Rattle.format.proofs.threads.read_thread.Lts as lts
-use Rattle.format.proofs.checks.is_record.Reads as is-record-reads
-use Rattle.format.proofs.lines.check_lines.Reads as check-lines-reads
 
--- src/threads.rt:26:30
 slice-aggregate-is-record : tie.Need-slice-aggregate-is-record
 slice-aggregate-is-record c = search needs
 
--- src/threads.rt:26:9
 is-record-requires : tie.Need-is-record-requires
 is-record-requires c κs = search needs
 
--- src/threads.rt:27:9
 returns : tie.Need-returns
 unfolding readThread check threadOf
 returns c =
     rw (sym (c .before .is-record .ensures) ∙ not-true _ (c .if1 .taken))
 
--- src/threads.rt:29:19
 add-n : tie.Need-add-n
 add-n c =
-    omega (arith, record-fits markTH (now (c .before .before .before .before .args .bytes)) (c .before .before .before .before .args .at) 3 (c .before .before .before .before .pre) (sym (c .before .is-record .ensures) ∙ not-false _ (c .if1 .left)))
+    omega (
+      arith,
+      record-fits markTH (now (c .before .before .before .before .args .bytes))
+          (c .before .before .before .before .args .at) 3 (c .before .before .before .before .pre) (sym
+          (c .before .is-record .ensures) ∙ not-false _ (c .if1 .left)),
+    )
 
--- src/threads.rt:29:13
 shared-slice-read-n : tie.Need-shared-slice-read-n
 shared-slice-read-n c =
-    omega (arith, record-fits markTH (now (c .before .before .before .before .before .args .bytes)) (c .before .before .before .before .before .args .at) 3 (c .before .before .before .before .before .pre) (sym (c .before .before .is-record .ensures) ∙ not-false _ (c .before .if1 .left)))
+    omega (
+      arith,
+      record-fits markTH (now (c .before .before .before .before .before .args .bytes))
+          (c .before .before .before .before .before .args .at) 3 (c .before .before .before .before .before .pre) (sym
+          (c .before .before .is-record .ensures) ∙ not-false _ (c .before .if1 .left)),
+    )
 
--- src/threads.rt:31:9
 returns-2 : tie.Need-returns-2
 unfolding readThread check threadOf
 returns-2 c =
     let a = c .before .before .before .before .before .before .args in
-    rw ((sym (c .before .before .before .is-record .ensures) ∙ not-false _ (c .before .before .if1 .left)), getD-drop (a .at) (now (a .bytes)) 2 0, lt-leb _ _ (c .if2 .taken))
+    rw (
+      (sym (c .before .before .before .is-record .ensures) ∙ not-false _ (c .before .before .if1 .left)),
+      getD-drop (a .at) (now (a .bytes)) 2 0,
+      lt-leb _ _ (c .if2 .taken),
+    )
 
--- src/threads.rt:33:36
 add-check-lines : tie.Need-add-check-lines
 add-check-lines c =
-    omega (arith, record-fits markTH (now (c .before .before .before .before .before .before .args .bytes)) (c .before .before .before .before .before .before .args .at) 3 (c .before .before .before .before .before .before .pre) (sym (c .before .before .before .is-record .ensures) ∙ not-false _ (c .before .before .if1 .left)))
+    omega (
+      arith,
+      record-fits markTH (now (c .before .before .before .before .before .before .args .bytes))
+          (c .before .before .before .before .before .before .args .at) 3
+          (c .before .before .before .before .before .before .pre) (sym (c .before .before .before .is-record .ensures)
+          ∙ not-false _ (c .before .before .if1 .left)),
+    )
 
--- src/threads.rt:33:9
 check-lines-requires : tie.Need-check-lines-requires
 check-lines-requires c κs =
-    omega (arith, record-fits markTH (now (c .before .before .before .before .before .before .args .bytes)) (c .before .before .before .before .before .before .args .at) 3 (c .before .before .before .before .before .before .pre) (sym (c .before .before .before .is-record .ensures) ∙ not-false _ (c .before .before .if1 .left)))
+    omega (
+      arith,
+      record-fits markTH (now (c .before .before .before .before .before .before .args .bytes))
+          (c .before .before .before .before .before .before .args .at) 3
+          (c .before .before .before .before .before .before .pre) (sym (c .before .before .before .is-record .ensures)
+          ∙ not-false _ (c .before .before .if1 .left)),
+    )
 
--- src/threads.rt:35:26
 enum-told : tie.Need-enum-told
 enum-told c = search needs
 
--- src/threads.rt:36:23
 enum-known-lines : tie.Need-enum-known-lines
 enum-known-lines c = search needs
 
--- src/threads.rt:22:1
 returns-3 : tie.Need-returns-3
 returns-3 c =
     let a = c .before .before .before .before .before .before .before .before .before .args in
-    sym (thread-passed (a .l) (a .k) (now (a .bytes)) (a .at) (sym (c .before .before .before .before .before .before .is-record .ensures) ∙ not-false _ (c .before .before .before .before .before .if1 .left)) (c .before .before .before .if2 .left) _ refl (sym (c .before .before .check-lines .ensures) ∙ c .enum-told .given .1))
+    sym (thread-passed (a .l) (a .k) (now (a .bytes)) (a .at) (sym
+    (c .before .before .before .before .before .before .is-record .ensures) ∙ not-false _
+    (c .before .before .before .before .before .if1 .left)) (c .before .before .before .if2 .left) _ refl (sym
+    (c .before .before .check-lines .ensures) ∙ c .enum-told .given .1))
 
--- src/threads.rt:22:1
 returns-4 : tie.Need-returns-4
 returns-4 c =
     let a = c .before .before .before .before .before .before .before .before .before .before .args in
-    sym (thread-failed (a .l) (a .k) (now (a .bytes)) (a .at) (sym (c .before .before .before .before .before .before .before .is-record .ensures) ∙ not-false _ (c .before .before .before .before .before .before .if1 .left)) (c .before .before .before .before .if2 .left) _ refl (sym (c .before .before .before .check-lines .ensures) ∙ c .before .lines .given .1))
+    sym (thread-failed (a .l) (a .k) (now (a .bytes)) (a .at) (sym
+    (c .before .before .before .before .before .before .before .is-record .ensures) ∙ not-false _
+    (c .before .before .before .before .before .before .if1 .left))
+    (c .before .before .before .before .if2 .left) _ refl (sym (c .before .before .before .check-lines .ensures)
+    ∙ c .before .lines .given .1))
 
 pub read-thread-spec : {M : Type 1} → statement M
 read-thread-spec =

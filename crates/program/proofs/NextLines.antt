@@ -1,0 +1,54 @@
+-- What document 01 says of next lines in so many words, as facts about the definition.
+use Prim.Native.Nat.{ℕ, zero, suc, _≤_}
+use native.Mathlib.Omega.{arith}
+use mathlib.Core.Path.{_≡_, refl}
+use mathlib.Core.List.{List, [], _∷_}
+use mathlib.Core.Option.{Option, none, some}
+use lib.ListN.{length, getElem?}
+use borrow.Author.Tests.{eq-eqb, ne-eqb}
+use Rattle.program.specs.Program.{Operand, Line, Program, linesOf, cas, wait, bcas, jump}
+use Rattle.program.specs.Thread.{ThreadState, operand, onward, load, goto, Action, reads, updates, Effect}
+use Rattle.program.specs.Thread.{NextLine, ended, local, access, does, doesAt, nextLine}
+
+past-end : {A : Type 0} (l : List A) (i : ℕ) → length l ≤ i → getElem? l i ≡ none
+past-end [] i h = refl
+past-end (a ∷ l) zero h = absurd (omega arith)
+past-end (a ∷ l) (suc i) h = past-end l i (omega arith)
+
+-- "a thread at its line n has none"
+pub no-line-at-the-end : (p : Program) (t : ℕ) (s : ThreadState) → length (linesOf p t) ≤ s .line → nextLine p t s ≡ ended
+unfolding nextLine doesAt
+no-line-at-the-end p t s h = rw (past-end (linesOf p t) (s .line) h)
+
+-- What an access does when it picks a write of value u.
+unfoldable pub effectAt : NextLine → ℕ → Option Effect
+effectAt ended u = none
+effectAt (local q) u = none
+effectAt (access x effects) u = effects u
+
+module _ (K r x : ℕ) (a b : Operand) (s : ThreadState) (u : ℕ) where
+  -- "A failed CAS is a plain read."
+  pub failed-cas-reads : (u ≡ operand s a → ⊥)
+      → effectAt (does K (cas r x a b) s) u ≡ some (record { action = reads; after = load s r u })
+  unfolding does effectAt
+  failed-cas-reads h = rw (ne-eqb u (operand s a) h)
+
+  pub cas-updates : u ≡ operand s a
+      → effectAt (does K (cas r x a b) s) u ≡ some (record { action = updates (operand s b); after = load s r u })
+  unfolding does effectAt
+  cas-updates h = rw (eq-eqb u (operand s a) h)
+
+  -- "Ops 9 and 10 have a step only with a w of value A."
+  pub wait-has-no-other-step : (u ≡ operand s a → ⊥) → effectAt (does K (wait x a) s) u ≡ none
+  unfolding does effectAt
+  wait-has-no-other-step h = rw (ne-eqb u (operand s a) h)
+
+  pub blocking-cas-has-no-other-step : (u ≡ operand s a → ⊥) → effectAt (does K (bcas x a b) s) u ≡ none
+  unfolding does effectAt
+  blocking-cas-has-no-other-step h = rw (ne-eqb u (operand s a) h)
+
+-- "op 4 with A not 0 goes to its target, and every other of them goes on to the next line"
+pub jump-goes : (K target : ℕ) (a : Operand) (s : ThreadState) → (operand s a ≡ 0 → ⊥)
+    → does K (jump target a) s ≡ local (goto s target)
+unfolding does
+jump-goes K target a s h = rw (ne-eqb (operand s a) 0 h)
