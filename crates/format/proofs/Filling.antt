@@ -14,7 +14,8 @@ use Rattle.program_bytes.specs.Outcome.{Outcome, check, andThen}
 use Rattle.program_bytes.specs.Outcome.Outcome.{refused, accepted}
 use Rattle.program_bytes.specs.Format.{sizePR, sizeTH, sizeIN, readThread, readThreads, endsAfter}
 use Rattle.program_bytes.specs.Layout.{startsFrom, threadSize}
-use Rattle.format.specs.Answer.{noHeader, refusal, reading, headerOf, threadOf}
+use Rattle.format.specs.Answer.{noHeader, refusal, reading, headerOf}
+use Rattle.format.specs.Inner.{threadOf}
 use Rattle.format.specs.declared.Check.the-variants.{Passed}
 use Rattle.format.specs.declared.Header.{Header}
 use Rattle.format.specs.declared.Reading.{Reading}

@@ -1,11 +1,12 @@
 // Checks of one record: the marks, and the fields of a line.
 use crate::Check;
+use crate::FIRST_REGISTER;
 ghost use mathlib.Core.Path.{_≡_};
 ghost use Prim.Native.Nat.{_+_, _≤_};
 ghost use lib.ListN.{length, drop};
 ghost use Rattle.program_bytes.specs.Ops.{isOp, opAt};
 ghost use Rattle.program_bytes.specs.Format.{startsWith, isRecord, isOperand, whenUsed, zeroUnlessUsed, usesTarget, isTarget, isRegAndRest, areOperands, fieldsToLine};
-ghost use Rattle.format.specs.Answer.{makeRow, rowOf, targetMeans, checkOf};
+ghost use Rattle.format.specs.Inner.{makeRow, rowOf, targetMeans, checkOf};
 
 // The fields of a line's record, as they stand in the bytes.
 pub struct Fields {
@@ -113,7 +114,7 @@ fn is_reg_and_rest(r: Row, f: Fields) -> bool
     ensures { λ is. ⌜ is ≡ isRegAndRest (opAt (f .op)) (f .reg) (f .target) (f .a) (f .b) ⌝ }
 {
     let target = r.target;
-    if !when_used(r.reg, f.reg < 4) {
+    if !when_used(r.reg, (f.reg as usize) < limits::REGISTERS) {
         return false;
     }
     if !zero_unless_used(r.reg, f.reg) {
@@ -146,10 +147,10 @@ fn is_operand(k: u8, x: u8) -> bool
     if x < k {
         return true;
     }
-    if x < 128 {
+    if (x as usize) < FIRST_REGISTER {
         return false;
     }
-    x < 132
+    (x as usize) < FIRST_REGISTER + limits::REGISTERS
 }
 
 // Check 8.

@@ -1,5 +1,5 @@
 // The program bytes of document 01: the reader, and the line at a place of an accepted input.
-// The meaning is specs/Format.antt; each contract is an equation with it.
+// The meaning is specs/Format.antt of the crate program_bytes; each contract is an equation with it.
 mod checks;
 mod lines;
 mod threads;
@@ -14,6 +14,15 @@ ghost use lib.ListN.{length, getD};
 ghost use Rattle.program.specs.Program.{Line as ModelLine, linesOf};
 ghost use Rattle.program_bytes.specs.Format.{areInRange, readProgram, programOf};
 ghost use Rattle.format.specs.Answer.{noHeader, refusal, reading, Accepted, lineMeans};
+
+// The bytes of each record, and the byte that stands for register 0 as an operand.
+const PR_SIZE: usize = 5;
+
+const TH_SIZE: usize = 3;
+
+const IN_SIZE: usize = 7;
+
+const FIRST_REGISTER: usize = 128;
 
 // What a check says: passed, or the number of the check that failed.
 pub enum Check {
@@ -121,26 +130,26 @@ fn are_in_range(t: u8, l: u8, k: u8) -> bool
     if t < 1 {
         return false;
     }
-    if 8 < t {
+    if limits::THREADS < t as usize {
         return false;
     }
     if l < 1 {
         return false;
     }
-    if 8 < l {
+    if limits::LOCATIONS < l as usize {
         return false;
     }
-    if k < 2 {
+    if (k as usize) < limits::MIN_VALUES {
         return false;
     }
-    k <= 16
+    k as usize <= limits::VALUES
 }
 
 // Reads any input: the first failed check, or the header of the program that the bytes spell.
 pub fn read(bytes: &[u8]) -> Reading
     ensures { λ r. ⌜ r ≡ reading (readProgram (now (bytes .entry))) ⌝ }
 {
-    if !is_record(bytes, 0, b"PR", 5) {
+    if !is_record(bytes, 0, b"PR", PR_SIZE) {
         return refused(1);
     }
     let t = bytes[2];
@@ -159,6 +168,6 @@ pub fn line_at(bytes: &[u8], header: Header, t: usize, i: usize) -> Line
     ensures { λ r. ⌜ ((other : ModelLine) → lineMeans r ≡ getD (linesOf (programOf (now (bytes .entry))) t) i other) ⌝ }
 {
     let starts = header.starts;
-    let at = starts[t] + i * 7;
+    let at = starts[t] + i * IN_SIZE;
     decode(fields_at(bytes, at), header.values)
 }

@@ -1,5 +1,7 @@
 // The lines of a thread: their checks, and the line of a record that passed.
 use crate::Check;
+use crate::FIRST_REGISTER;
+use crate::IN_SIZE;
 use crate::Line;
 use crate::Operand;
 use crate::checks::Fields;
@@ -10,13 +12,8 @@ ghost use Prim.Native.Nat.{_+_, _≤_};
 ghost use lib.ListN.{length, drop};
 ghost use Rattle.program_bytes.specs.Ops.{opAt};
 ghost use Rattle.program_bytes.specs.Format.{operand, readLine, readLines};
-ghost use Rattle.format.specs.Answer.{fieldsOf, operandMeans, lineMeans, checkOf};
-
-fn wide(x: u8) -> usize
-    ensures { λ r. ⌜ r ≡ x ⌝ }
-{
-    x as usize
-}
+ghost use Rattle.format.specs.Answer.{operandMeans, lineMeans};
+ghost use Rattle.format.specs.Inner.{fieldsOf, checkOf};
 
 // The fields of the record at the cursor.
 pub fn fields_at(bytes: &[u8], at: usize) -> Fields
@@ -37,7 +34,7 @@ fn check_line(bytes: &[u8], at: usize, l: u8, k: u8, n: u8) -> Check
     requires { ⌜ at ≤ length (now bytes) ⌝ }
     ensures { λ r. ⌜ r ≡ checkOf (readLine l k n (drop at (now (bytes .entry)))) ⌝ }
 {
-    if !is_record(bytes, at, b"IN", 7) {
+    if !is_record(bytes, at, b"IN", IN_SIZE) {
         return Check::Failed(3);
     }
     check_fields(fields_at(bytes, at), l, k, n)
@@ -57,7 +54,7 @@ pub fn check_lines(bytes: &[u8], at: usize, l: u8, k: u8, n: u8) -> Check
                 return Check::Failed(number);
             }
             Check::Passed => {
-                next = next + 7;
+                next = next + IN_SIZE;
                 left = left - 1;
             }
         }
@@ -73,10 +70,10 @@ fn operand_of(k: usize, x: u8) -> Operand
     if v < k {
         return Operand::Constant(v);
     }
-    if v < 128 {
+    if v < FIRST_REGISTER {
         return Operand::Register(0);
     }
-    Operand::Register(v - 128)
+    Operand::Register(v - FIRST_REGISTER)
 }
 
 // The line that the fields of an op's record are.

@@ -1,6 +1,9 @@
 // The threads of a program.
 use crate::Check;
+use crate::IN_SIZE;
+use crate::PR_SIZE;
 use crate::Reading;
+use crate::TH_SIZE;
 use crate::checks::is_record;
 use crate::lines::check_lines;
 use crate::no_header;
@@ -11,7 +14,8 @@ ghost use lib.ListN.{length, drop};
 ghost use Rattle.limits.specs.Limits.{maxThreads};
 ghost use Rattle.program_bytes.specs.Outcome.{andThen};
 ghost use Rattle.program_bytes.specs.Format.{sizePR, readThread, readThreads, endsAfter};
-ghost use Rattle.format.specs.Answer.{threadOf, reading};
+ghost use Rattle.format.specs.Answer.{reading};
+ghost use Rattle.format.specs.Inner.{threadOf};
 
 // What reading a thread finds: its number of lines, or the check that failed.
 pub enum Thread {
@@ -23,14 +27,14 @@ fn read_thread(bytes: &[u8], at: usize, l: u8, k: u8) -> Thread
     requires { ⌜ at ≤ length (now bytes) ⌝ }
     ensures { λ r. ⌜ r ≡ threadOf (readThread l k (drop at (now (bytes .entry)))) ⌝ }
 {
-    if !is_record(bytes, at, b"TH", 3) {
+    if !is_record(bytes, at, b"TH", TH_SIZE) {
         return Thread::Faulty(3);
     }
     let n = bytes[at + 2];
-    if 64 < n {
+    if limits::LINES < n as usize {
         return Thread::Faulty(4);
     }
-    let lines = check_lines(bytes, at + 3, l, k, n);
+    let lines = check_lines(bytes, at + TH_SIZE, l, k, n);
     match lines {
         Check::Passed => Thread::Lines(n),
         Check::Failed(number) => Thread::Faulty(number),
@@ -47,7 +51,7 @@ pub fn read_threads(bytes: &[u8], t: u8, l: u8, k: u8) -> Reading
     header.threads = count;
     header.locations = l as usize;
     header.values = k as usize;
-    let mut next: usize = 5;
+    let mut next: usize = PR_SIZE;
     let mut i: usize = 0;
     while i < count {
         let thread = read_thread(bytes, next, l, k);
@@ -57,9 +61,9 @@ pub fn read_threads(bytes: &[u8], t: u8, l: u8, k: u8) -> Reading
             }
             Thread::Lines(n) => {
                 let lines = n as usize;
-                header.starts[i] = next + 3;
+                header.starts[i] = next + TH_SIZE;
                 header.counts[i] = lines;
-                next = next + 3 + lines * 7;
+                next = next + TH_SIZE + lines * IN_SIZE;
                 i = i + 1;
             }
         }

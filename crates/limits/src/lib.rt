@@ -8,6 +8,9 @@ pub const LOCATIONS: usize = 8;
 
 pub type LocSet = u8;
 
+// Values of a location at least.
+pub const MIN_VALUES: usize = 2;
+
 // Values of a location at most, and the type of a set of them: one bit for each.
 pub const VALUES: usize = 16;
 

@@ -46,9 +46,11 @@ unfoldable pub operandAnswer : Operand → OperandAnswer
 operandAnswer (constant v) = record { kind = 1; number = v }
 operandAnswer (register r) = record { kind = 2; number = r }
 
+-- A line's answer from its op and fields.
 abbrev pub makeLine : (op reg target : ℕ) (a b : OperandAnswer) → LineAnswer
 makeLine op reg target a b = record { op = op; reg = reg; target = target; a = a; b = b }
 
+-- Where there is no such line.
 abbrev pub noLine : LineAnswer
 noLine = makeLine 0 0 0 noOperand noOperand
 
@@ -65,7 +67,7 @@ lineFields (cas r x a b) = makeLine 8 r x (operandAnswer a) (operandAnswer b)
 lineFields (wait x a) = makeLine 9 0 x (operandAnswer a) noOperand
 lineFields (bcas x a b) = makeLine 10 0 x (operandAnswer a) (operandAnswer b)
 
--- Line i of thread t, where the program is accepted and has one. (The line after getD's index is never taken.)
+-- Line i of thread t, where the program is accepted and has one. (The line that getD would give past the end is never taken.)
 unfoldable pub lineAnswer : Outcome Program → (t i : ℕ) → LineAnswer
 lineAnswer (refused number) t i = noLine
 lineAnswer (accepted p) t i =

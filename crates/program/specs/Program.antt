@@ -1,7 +1,7 @@
 -- The program as data: document 01, section "Program bytes", without the bytes. No limits stand here.
 use Prim.Native.Nat.{ℕ}
 use mathlib.Core.List.{List, []}
-use lib.ListN.{length, getD}
+use lib.ListN.{getD}
 
 -- "A and B are operands: 0 to K−1 is that constant, 128 to 131 is register 0 to 3."
 pub data Operand : Type 0 where

@@ -15,3 +15,4 @@ pub mod RoundTrip
 pub mod Refusals
 pub mod StartLaws
 pub mod Places
+pub mod Cases

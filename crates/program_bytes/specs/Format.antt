@@ -1,5 +1,6 @@
--- The program bytes, as document 01 has them in its sections "Program bytes" and "Checks": from a list of bytes to the number of the
--- first failed check, 1 to 9, or the program.
+-- The program bytes, as document 01 has them in its sections "Program bytes" and "Checks": from a list of bytes to the
+-- number of the first failed check, 1 to 9, or the program. "All fields are one byte, an unsigned number": a byte is a
+-- number here. A record is read with the bytes after it.
 use Prim.Native.Nat.{ℕ, zero, suc, _+_, _-_}
 use mathlib.Core.Bool.{Bool, true, false, not, cond, _&&_, _||_}
 use mathlib.Core.List.{List, [], _∷_}
@@ -39,27 +40,35 @@ startsWith [] bytes = true
 startsWith (m ∷ mark) [] = false
 startsWith (m ∷ mark) (b ∷ bytes) = eqb b m && startsWith mark bytes
 
--- The record that is due stands there, whole and with its mark.
+-- Checks 1 and 3: "Does the input hold a whole PR record at its start?", "Is the record that is due there, whole and with
+-- its mark?"
 unfoldable pub isRecord : List ℕ → ℕ → List ℕ → Bool
 isRecord mark size bytes = leb size (length bytes) && startsWith mark bytes
 
--- "0 to K−1 is that constant, 128 to 131 is register 0 to 3."
+-- Check 2: "Are T, L and K in range?" "threads 1 to 8, locations 1 to 8, values 0 to K−1 with K from 2 to 16."
+unfoldable pub areInRange : (T L K : ℕ) → Bool
+areInRange T L K =
+    (leb 1 T && leb T maxThreads) && ((leb 1 L && leb L maxLocations) && (leb minValues K && leb K maxValues))
+
+-- "A and B are operands: 0 to K−1 is that constant, 128 to 131 is register 0 to 3."
 abbrev pub firstRegister : ℕ
 firstRegister = 128
 
 unfoldable pub isOperand : ℕ → ℕ → Bool
-isOperand K x = ltb x K || leb firstRegister x && ltb x (firstRegister + registers)
+isOperand K x = ltb x K || (leb firstRegister x && ltb x (firstRegister + registers))
 
 unfoldable pub operand : ℕ → ℕ → Operand
 operand K x = cond (ltb x K) (constant x) (register (x - firstRegister))
 
--- A used field passes its test, an unused one is 0.
+-- A used field passes its test.
 unfoldable pub whenUsed : Bool → Bool → Bool
 whenUsed used test = not used || test
 
+-- An unused field is 0.
 unfoldable pub zeroUnlessUsed : Bool → ℕ → Bool
 zeroUnlessUsed used x = used || eqb x 0
 
+-- The op uses its target.
 unfoldable pub usesTarget : Target → Bool
 usesTarget noTarget = false
 usesTarget toLocation = true
@@ -72,8 +81,9 @@ isRegAndRest o reg target a b =
     && (zeroUnlessUsed (o .reg) reg
     && (zeroUnlessUsed (usesTarget (o .target)) target && (zeroUnlessUsed (o .a) a && zeroUnlessUsed (o .b) b)))
 
--- Check 7: "Is a used target in range?", among L locations, in a thread of n lines.
-unfoldable pub isTarget : Target → ℕ → ℕ → ℕ → Bool
+-- Check 7: "Is a used target in range?" "A target is a location 0 to L−1, or for op 4 a line 0 to n. Line n is the end of
+-- the thread."
+unfoldable pub isTarget : Target → (L n target : ℕ) → Bool
 isTarget noTarget L n target = true
 isTarget toLocation L n target = ltb target L
 isTarget toLine L n target = leb target n
@@ -82,7 +92,7 @@ isTarget toLine L n target = leb target n
 unfoldable pub areOperands : Op → ℕ → ℕ → ℕ → Bool
 areOperands o K a b = whenUsed (o .a) (isOperand K a) && whenUsed (o .b) (isOperand K b)
 
--- Checks 5 to 8 of a line's fields, and the line.
+-- Checks 5 to 8 of the fields of a line, in a thread of n lines, and the line.
 unfoldable pub fieldsToLine : (L K n op reg target a b : ℕ) → Outcome Line
 fieldsToLine L K n op reg target a b =
     check 5 (isOp op)
@@ -91,7 +101,7 @@ fieldsToLine L K n op reg target a b =
     (check 8 (areOperands (opAt op) K a b)
     (accepted (opAt op .makes reg target (operand K a) (operand K b))))))
 
--- Check 3, then checks 5 to 8, of the IN record that is due. A record is read with the bytes after it.
+-- "IN, op, reg, target, A, B: one line." Check 3, then checks 5 to 8, of the IN record that is due.
 unfoldable pub readLine : (L K n : ℕ) → List ℕ → Outcome (Line × List ℕ)
 readLine L K n bytes =
     check 3 (isRecord markIN sizeIN bytes)
@@ -106,30 +116,26 @@ readLines L K n (suc count) bytes =
     andThen (readLine L K n bytes)
     (λ first. andThen (readLines L K n count (first .1)) (λ others. accepted (first .0 ∷ others .0, others .1)))
 
--- Check 3 and check 4 of the TH record that is due, and the thread's lines.
+-- "TH, n: opens a thread of n lines, 0 to 64." Check 3 of the TH record that is due, and check 4: "For TH, is n at most
+-- 64?" Then its lines.
 unfoldable pub readThread : (L K : ℕ) → List ℕ → Outcome (List Line × List ℕ)
 readThread L K bytes =
     check 3 (isRecord markTH sizeTH bytes)
     (check 4 (leb (getD bytes 2 0) maxLines) (readLines L K (getD bytes 2 0) (getD bytes 2 0) (drop sizeTH bytes)))
 
--- A number of threads: "There are T of them, each followed by its n lines."
+-- "There are T of them, each followed by its n lines.": a number of threads.
 unfoldable pub readThreads : (L K count : ℕ) → List ℕ → Outcome (List (List Line) × List ℕ)
 readThreads L K zero bytes = accepted ([], bytes)
 readThreads L K (suc count) bytes =
     andThen (readThread L K bytes)
     (λ first. andThen (readThreads L K count (first .1)) (λ others. accepted (first .0 ∷ others .0, others .1)))
 
--- "threads 1 to 8, locations 1 to 8, values 0 to K−1 with K from 2 to 16."
-unfoldable pub areInRange : (T L K : ℕ) → Bool
-areInRange T L K =
-    (leb 1 T && leb T maxThreads) && ((leb 1 L && leb L maxLocations) && (leb minValues K && leb K maxValues))
-
--- Check 9 after the last record, and the program.
+-- "After the last record", check 9: "Does the input end?" Then the program.
 unfoldable pub endsAfter : (L K : ℕ) → List (List Line) × List ℕ → Outcome Program
 endsAfter L K read =
     check 9 (eqb (length (read .1)) 0) (accepted (record { threads = read .0; locations = L; values = K }))
 
--- The whole input: check 1, check 2, the threads, check 9.
+-- The whole input: "PR, T, L, K" "comes first", with checks 1 and 2, then the threads, then check 9.
 unfoldable pub readProgram : List ℕ → Outcome Program
 readProgram bytes =
     check 1 (isRecord markPR sizePR bytes)
@@ -138,10 +144,12 @@ readProgram bytes =
     (readThreads (getD bytes 3 0) (getD bytes 4 0) (getD bytes 2 0) (drop sizePR bytes))
     (endsAfter (getD bytes 3 0) (getD bytes 4 0))))
 
--- The program that an accepted input spells. (A refused input stands for no program, and this says nothing of it.)
+-- "A program is accepted when no check before the search fails." The program of an accepted input. (A refused input stands
+-- for no program, and nothing is said of it.)
 unfoldable pub programIn : Outcome Program → Program
 programIn (refused number) = record { threads = []; locations = 0; values = 0 }
 programIn (accepted p) = p
 
+-- The program that the bytes spell, where they are accepted.
 abbrev pub programOf : List ℕ → Program
 programOf bytes = programIn (readProgram bytes)

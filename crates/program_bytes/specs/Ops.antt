@@ -1,5 +1,5 @@
 -- The op table of document 01, section "Program bytes": for each op the line that it is and the fields that it uses.
-use Prim.Native.Nat.{ℕ, _-_, _≤_}
+use Prim.Native.Nat.{ℕ, _-_}
 use mathlib.Core.Bool.{Bool, true, false, _&&_}
 use mathlib.Core.List.{List, [], _∷_}
 use lib.ListN.{length, getD}
@@ -19,6 +19,7 @@ pub record Op : Type 0 where
   pub b : Bool
   pub makes : ℕ → ℕ → Operand → Operand → Line
 
+-- A row from its columns.
 abbrev pub row : Bool → Target → Bool → Bool → (ℕ → ℕ → Operand → Operand → Line) → Op
 row reg target a b makes = record { reg = reg; target = target; a = a; b = b; makes = makes }
 
@@ -41,7 +42,7 @@ opTable =
     ∷ row false toLocation true true (λ r x a b. bcas x a b)
     ∷ []
 
--- "Is op 1 to 10?"
+-- Check 5: "Is op 1 to 10?"
 unfoldable pub isOp : ℕ → Bool
 isOp op = leb 1 op && leb op (length opTable)
 

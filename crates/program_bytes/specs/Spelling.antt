@@ -30,13 +30,16 @@ spellLine (cas r x a b) = lineRecord 8 r x (operandByte a) (operandByte b)
 spellLine (wait x a) = lineRecord 9 0 x (operandByte a) 0
 spellLine (bcas x a b) = lineRecord 10 0 x (operandByte a) (operandByte b)
 
+-- Lines one after the other.
 unfoldable pub spellLines : List Line → List ℕ
 spellLines [] = []
 spellLines (line ∷ lines) = spellLine line ++ spellLines lines
 
+-- A thread: its TH record, and its lines.
 unfoldable pub spellThread : List Line → List ℕ
 spellThread lines = markTH ++ length lines ∷ spellLines lines
 
+-- Threads one after the other.
 unfoldable pub spellThreads : List (List Line) → List ℕ
 spellThreads [] = []
 spellThreads (lines ∷ threads) = spellThread lines ++ spellThreads threads

@@ -1,6 +1,6 @@
 -- `format::checks::check_fields` meets its contract. Checks 5 to 8 in turn; the first that fails decides.
 use Rattle.program_bytes.specs.Ops.{Target as OpTarget}
-use Rattle.format.specs.Answer.{checkOf}
+use Rattle.format.specs.Inner.{checkOf}
 use Rattle.program_bytes.specs.Outcome.{check}
 use Rattle.program_bytes.specs.Format.{fieldsToLine, isTarget}
 use borrow.Author.Tests.{not-true, not-false}

@@ -1,4 +1,5 @@
 -- `format::checks::is_operand` meets its contract. By the three comparisons.
+use borrow.Author.Needs.{needs}
 use Rattle.program_bytes.specs.Format.{isOperand}
 use borrow.Author.Tests.{lt-ltb, le-ltb, le-leb, lt-leb}
 use Rattle.format.proofs.checks.is_operand.Statement.{statement}
@@ -14,10 +15,13 @@ unfolding isOperand
 returns-2 c =
     rw (le-ltb _ _ (c .before .if1 .left), lt-leb _ _ (c .if2 .taken))
 
+add-result : tie.Need-add-result
+add-result c = search needs
+
 returns-3 : tie.Need-returns-3
 unfolding isOperand
 returns-3 c =
     rw (le-ltb _ _ (c .before .if1 .left), le-leb _ _ (c .if2 .left))
 
 pub is-operand-spec : {M : Type 1} → statement M
-is-operand-spec = tie.close (tie.spec returns returns-2 returns-3)
+is-operand-spec = tie.close (tie.spec returns returns-2 add-result returns-3)

@@ -6,6 +6,9 @@ use borrow.Author.Needs.{needs}
 use Rattle.format.proofs.checks.is_reg_and_rest.Statement.{statement}
 use Rattle.format.proofs.checks.is_reg_and_rest.Tie as tie
 
+cast-when-used : tie.Need-cast-when-used
+cast-when-used c = search needs
+
 when-used-requires : tie.Need-when-used-requires
 when-used-requires c κs = search needs
 
@@ -95,6 +98,7 @@ pub is-reg-and-rest-spec : {M : Type 1} → statement M
 is-reg-and-rest-spec =
     tie.close
     (tie.spec
+    cast-when-used
     when-used-requires
     returns
     zero-unless-used-requires

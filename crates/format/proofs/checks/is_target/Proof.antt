@@ -1,5 +1,5 @@
 -- `format::checks::is_target` meets its contract. By cases on the target.
-use Rattle.format.specs.Answer.{targetMeans}
+use Rattle.format.specs.Inner.{targetMeans}
 use Rattle.program_bytes.specs.Format.{isTarget}
 use borrow.Author.Needs.{needs}
 use Rattle.format.proofs.checks.is_target.Statement.{statement}

@@ -1,6 +1,6 @@
 -- `format::checks::row_of` meets its contract. Each arm is its row of the op table; what is no op has the first row.
 use Rattle.format.proofs.FirstRow.{first-row}
-use Rattle.format.specs.Answer.{rowOf, targetOf}
+use Rattle.format.specs.Inner.{rowOf, targetOf}
 use Rattle.program_bytes.specs.Ops.{opTable, opAt, sumOp}
 use mathlib.Core.Path.{_∙_}
 use borrow.Author.Needs.{needs}

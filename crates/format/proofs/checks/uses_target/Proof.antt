@@ -1,5 +1,5 @@
 -- `format::checks::uses_target` meets its contract. By cases on the target.
-use Rattle.format.specs.Answer.{targetMeans}
+use Rattle.format.specs.Inner.{targetMeans}
 use Rattle.program_bytes.specs.Format.{usesTarget}
 use borrow.Author.Needs.{needs}
 use Rattle.format.proofs.checks.uses_target.Statement.{statement}

@@ -1,6 +1,6 @@
 -- `format::lines::check_lines` meets its contract. The lines still to be read come to the same check as all of them.
 use Rattle.format.proofs.Turns.{lines-fail, lines-pass}
-use Rattle.format.specs.Answer.{checkOf}
+use Rattle.format.specs.Inner.{checkOf}
 use Rattle.program_bytes.specs.Format.{readLines}
 use lib.Seq.{drop-drop}
 use lib.ListN.{length, drop, length-drop}

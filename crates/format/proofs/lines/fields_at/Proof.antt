@@ -1,6 +1,6 @@
 -- `format::lines::fields_at` meets its contract. A byte behind the cursor is a byte of the rest.
 use lib.Seq.{getD-drop}
-use Rattle.format.specs.Answer.{fieldsOf}
+use Rattle.format.specs.Inner.{fieldsOf}
 use borrow.Author.Needs.{needs}
 use Rattle.format.proofs.lines.fields_at.Statement.{statement}
 use Rattle.format.proofs.lines.fields_at.Tie as tie

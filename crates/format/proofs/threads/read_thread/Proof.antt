@@ -1,6 +1,6 @@
 -- `format::threads::read_thread` meets its contract. Checks 3 and 4, and then what `check_lines` ensures.
 use Rattle.format.proofs.Turns.{record-fits, thread-passed, thread-failed}
-use Rattle.format.specs.Answer.{threadOf}
+use Rattle.format.specs.Inner.{threadOf}
 use Rattle.program_bytes.specs.Format.{markTH, readThread}
 use Rattle.program_bytes.specs.Outcome.{check}
 use borrow.Author.Tests.{not-true, not-false, lt-leb}

@@ -1,0 +1,86 @@
+-- Cases of document 01 that the reader decides, and inputs with two faults, of which the first check in document 01's order
+-- wins. One table, one computed test over it.
+use Prim.Native.Nat.{ℕ}
+use mathlib.Core.Path.{_≡_, refl}
+use mathlib.Core.Bool.{Bool, true, _&&_}
+use mathlib.Core.List.{List, [], _∷_, _++_}
+use lib.Dec.{eqb}
+use Rattle.program.specs.Program.{Program}
+use Rattle.program_bytes.specs.Outcome.{Outcome, refused, accepted, check, andThen}
+use Rattle.program_bytes.specs.Ops.{isOp, opAt, opTable, sumOp}
+use Rattle.program_bytes.specs.Format.{markPR, markTH, startsWith, isRecord, isOperand, operand, whenUsed}
+use Rattle.program_bytes.specs.Format.{zeroUnlessUsed, usesTarget, isRegAndRest, isTarget, areOperands}
+use Rattle.program_bytes.specs.Format.{fieldsToLine, readLine, readLines, readThread, readThreads, areInRange}
+use Rattle.program_bytes.specs.Format.{endsAfter, readProgram}
+use Rattle.program_bytes.specs.Spelling.{lineRecord}
+
+-- The number of the failed check, 0 where the input is accepted.
+abbrev number : Outcome Program → ℕ
+number (refused k) = k
+number (accepted p) = 0
+
+-- An input and the number that it gets.
+record Case : Type 0 where
+  bytes : List ℕ
+  gets : ℕ
+
+abbrev case : List ℕ → ℕ → Case
+case bytes gets = record { bytes = bytes; gets = gets }
+
+abbrev header : (T L K : ℕ) → List ℕ
+header T L K = markPR ++ T ∷ L ∷ K ∷ []
+
+abbrev thread : (n : ℕ) → List ℕ
+thread n = markTH ++ n ∷ []
+
+-- One thread of one line.
+abbrev oneLine : List ℕ → List ℕ
+oneLine line = header 1 1 2 ++ thread 1 ++ line
+
+abbrev cases : List Case
+cases =
+    -- "Empty input: 1."
+    case [] 1
+    -- "K = 1: 2."
+    ∷ case (header 1 1 1 ++ thread 0) 2
+    -- "One byte after the last record: 9."
+    ∷ case (header 1 1 2 ++ thread 0 ++ 0 ∷ []) 9
+    -- "op 4 to line n: accepted; to n + 1: 7."
+    ∷ case (oneLine (lineRecord 4 0 1 1 0)) 0
+    ∷ case (oneLine (lineRecord 4 0 2 1 0)) 7
+    -- "PR 1 1 2, TH 0."
+    ∷ case (header 1 1 2 ++ thread 0) 0
+    -- 1 before 2: a header cut short, of nine threads
+    ∷ case (markPR ++ 9 ∷ 1 ∷ []) 1
+    -- 2 before 3: no locations, and no thread
+    ∷ case (header 1 0 2) 2
+    -- 3 before 4: the mark alone
+    ∷ case (header 1 1 2 ++ markTH) 3
+    -- 4 before 3: too many lines, none of which is there
+    ∷ case (header 1 1 2 ++ thread 65) 4
+    -- 3 before 5: a line cut short, with an unknown op
+    ∷ case (oneLine (73 ∷ 78 ∷ 11 ∷ 0 ∷ 0 ∷ 0 ∷ [])) 3
+    -- 5 before 6: an unknown op, with a wrong reg
+    ∷ case (oneLine (lineRecord 11 4 0 0 0)) 5
+    -- 6 before 7: a wrong reg, and a location that is not there
+    ∷ case (oneLine (lineRecord 6 4 1 0 0)) 6
+    -- 6 before 7: an unused field that is not 0, and a location that is not there
+    ∷ case (oneLine (lineRecord 5 1 1 0 0)) 6
+    -- 7 before 8: a location that is not there, and a value that is not there
+    ∷ case (oneLine (lineRecord 5 0 1 2 0)) 7
+    -- 8 before 9: register 4, and a byte too many
+    ∷ case (oneLine (lineRecord 5 0 0 132 0) ++ 0 ∷ []) 8
+    -- a fault in an earlier line before any in a later one
+    ∷ case (header 1 1 2 ++ thread 2 ++ lineRecord 5 0 0 2 0 ++ lineRecord 11 0 0 0 0) 8
+    -- a fault in an earlier thread before one in a later one
+    ∷ case (header 2 1 2 ++ thread 1 ++ lineRecord 5 0 0 2 0 ++ thread 65) 8
+    ∷ []
+
+abbrev passes : List Case → Bool
+passes [] = true
+passes (c ∷ cs) = eqb (number (readProgram (c .bytes))) (c .gets) && passes cs
+
+pub every-case : passes cases ≡ true
+unfolding readProgram isRecord startsWith areInRange endsAfter readThreads readThread readLines readLine fieldsToLine check
+    andThen isOp opAt opTable sumOp isRegAndRest isTarget areOperands whenUsed zeroUnlessUsed usesTarget isOperand operand
+every-case = refl
