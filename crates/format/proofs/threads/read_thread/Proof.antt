@@ -6,6 +6,7 @@ use Rattle.program_bytes.specs.Outcome.{check}
 use borrow.Author.Tests.{not-true, not-false, lt-leb}
 use lib.Seq.{getD-drop}
 use denote.Ref.{now}
+use Prim.Native.Nat.{_+_}
 use native.Mathlib.Omega.{arith}
 use mathlib.Core.Path.{refl, sym, _∙_}
 use borrow.Author.Needs.{needs}
@@ -40,6 +41,11 @@ shared-slice-read-n c =
           (c .before .before .before .before .before .args .at) 3 (c .before .before .before .before .before .pre) (sym
           (c .before .before .is-record .ensures) ∙ not-false _ (c .before .if1 .left)),
     )
+
+cast-if2 : tie.Need-cast-if2
+cast-if2 c =
+    let a = c .before .before .before .before .before .args in
+    omega (arith, c .shared-slice-known2 .given (a .at + 2))
 
 returns-2 : tie.Need-returns-2
 unfolding readThread check threadOf
@@ -103,6 +109,7 @@ read-thread-spec =
     returns
     add-n
     shared-slice-read-n
+    cast-if2
     returns-2
     add-check-lines
     check-lines-requires
