@@ -49,7 +49,14 @@ struct Task {
 const STANDARD_INPUT: &str = "-";
 
 fn main() -> ExitCode {
-    let arguments: Vec<String> = std::env::args().skip(1).collect();
+    let arguments: Vec<String> =
+        match std::env::args_os().skip(1).map(|argument| argument.into_string()).collect() {
+            Ok(arguments) => arguments,
+            Err(argument) => {
+                eprintln!("order_asm: {} is not valid UTF-8", argument.to_string_lossy());
+                return ExitCode::from(2);
+            }
+        };
     let outcome = if arguments.iter().any(|argument| argument == "--help" || argument == "-h") {
         write_all(None, HELP.as_bytes()).map_err(|message| (message, 1))
     } else {

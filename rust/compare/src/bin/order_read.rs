@@ -5,15 +5,17 @@ use std::process::ExitCode;
 use std::{env, fs};
 
 fn main() -> ExitCode {
-    let mut arguments = env::args().skip(1);
+    let mut arguments = env::args_os().skip(1);
     let (file, rest) = (arguments.next(), arguments.next());
-    if rest.is_some() || matches!(file.as_deref(), Some("--help" | "-h")) {
+    if rest.is_some() || file.as_deref().is_some_and(|file| file == "--help" || file == "-h") {
         eprintln!("usage: order_read [FILE]\nReads program bytes and says whether the reader accepts them.");
         return ExitCode::from(2);
     }
-    let bytes = match file.as_deref() {
-        None | Some("-") => read_all(),
-        Some(path) => fs::read(path).map_err(|error| format!("{path}: {error}")),
+    let bytes = match file {
+        Some(path) if path != "-" => {
+            fs::read(&path).map_err(|error| format!("{}: {error}", path.to_string_lossy()))
+        }
+        _ => read_all(),
     };
     match bytes {
         Err(message) => {
