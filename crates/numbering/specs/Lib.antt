@@ -1,0 +1,4 @@
+pub mod Schedule
+pub mod Numbering
+pub mod Verdict
+pub mod Queue
