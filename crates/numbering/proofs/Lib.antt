@@ -1,2 +1,3 @@
 pub mod Lists
 pub mod Extend
+pub mod Schedules
