@@ -1,3 +1,4 @@
 pub mod Lists
 pub mod Extend
 pub mod Schedules
+pub mod Visits
