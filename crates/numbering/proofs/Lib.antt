@@ -2,3 +2,4 @@ pub mod Lists
 pub mod Extend
 pub mod Schedules
 pub mod Visits
+pub mod Firsts

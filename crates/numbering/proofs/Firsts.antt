@@ -1,0 +1,131 @@
+-- The first visits step by step: those of at most n + 1 threads are the start and then what is new among the kids of those of at most n.
+use Prim.Native.Nat.{ℕ, zero, suc, _≤_, _<_}
+use native.Mathlib.Omega.{arith}
+use native.Mathlib.Decide.{le-ind}
+use mathlib.Core.Path.{_≡_, refl, sym, ap, ap₂, _∙_, subst}
+use mathlib.Core.Logic.{_⊎_, inl, inr, ⊎-elim}
+use mathlib.Core.Bool.{Bool, true, false}
+use mathlib.Core.List.{List, [], _∷_, _++_, flatMap, filterMap, filterMap-append, IsPrefix}
+use mathlib.Core.List.{List·Memᴰ as Member, List·Memᴰ·not-nil, List·Memᴰ·eq-of-singleton}
+use mathlib.Core.Option.{Option, none, some, Option·map, map-eq-some-iff}
+use Rattle.numbering.specs.Schedule.{Schedule, threads, ofLength, upTo}
+use Rattle.numbering.specs.Numbering.{Visit, visits, known, extend, firsts}
+use Rattle.numbering.specs.Queue.{Steps}
+use Rattle.numbering.proofs.Lists.{front-of-itself, front-of-front, front-of-pieces, kept-from, kept-of}
+use Rattle.numbering.proofs.Extend.{Known, known-in-append, known-member, known-stays, extend-done, extend-from-nothing, extend-append}
+use Rattle.numbering.proofs.Extend.{extend-front, extend-front-grows, nothing-new, offered-is-known, news, news-none, news-known, news-new, extend-adds-news}
+use Rattle.numbering.proofs.Schedules.{thread-in-range, thread-listed}
+use Rattle.numbering.proofs.Visits.{visit, visitBy, kids, visits-of-no-thread, visits-step-by-step}
+
+abbrev pub keyOf : {A : Type 0} → Visit A → A
+keyOf v = v .key
+
+-- A step that a visit's kid was made by.
+pub record Kid {A : Type 0} (T : ℕ) (step : ℕ → A → Option A) (v w : Visit A) : Type 0 where
+  pub thread : ℕ
+  pub there : thread < T
+  pub made : step thread (v .key) ≡ some (w .key)
+  pub longer : w .path ≡ v .path ++ thread ∷ []
+
+module _ {A : Type 0} (same : A → A → Bool) (T : ℕ) (start : A) (step : ℕ → A → Option A) where
+  pub kid-by-step : (v w : Visit A) → Member w (kids T step v) → Kid T step v w
+  unfolding kids
+  kid-by-step v w m =
+      let r = kept-from (λ t. Option·map (visit (v .path ++ t ∷ [])) (step t (v .key))) (threads T) m in
+      let q = map-eq-some-iff (visit (v .path ++ r .0 ∷ [])) (step (r .0) (v .key)) .0 (r .2) in
+      record {
+        thread = r .0;
+        there = omega (arith, thread-in-range 0 T (r .1));
+        made = q .1 ∙ ap (λ z. some (z .key)) (q .2);
+        longer = ap (λ z. z .path) (sym (q .2))
+      }
+
+  pub step-gives-kid : (v : Visit A) (t : ℕ) → t < T → (b : A) → step t (v .key) ≡ some b → Member (visit (v .path ++ t ∷ []) b) (kids T step v)
+  unfolding kids
+  step-gives-kid v t lt b h =
+      kept-of (λ u. Option·map (visit (v .path ++ u ∷ [])) (step u (v .key))) (threads T) (thread-listed 0 T t (omega arith) (omega arith))
+      (ap (Option·map (visit (v .path ++ t ∷ []))) h)
+
+  -- Every step from the situation a leads to one that the list has.
+  abbrev pub Expanded : List (Visit A) → A → Type 0
+  Expanded l a = (t : ℕ) → t < T → (b : A) → step t a ≡ some b → Known same keyOf b l
+
+  -- The start, and then what is new among the kids of the list.
+  abbrev pub expanded : List (Visit A) → List (Visit A)
+  expanded l = extend same keyOf (visit [] start ∷ []) (flatMap (kids T step) l)
+
+  pub expanded-front : (l m : List (Visit A)) → IsPrefix l m → IsPrefix (expanded l) (expanded m)
+  expanded-front l m p =
+      extend-front-grows same keyOf (visit [] start ∷ []) (flatMap (kids T step) l) (flatMap (kids T step) m) (front-of-pieces (kids T step) l m p)
+
+module _ {A : Type 0} {same : A → A → Bool} {T : ℕ} {reached : Schedule → Option A} {start : A} {step : ℕ → A → Option A}
+    (laws : Steps same T reached start step) where
+  no-new-kid : (l : List (Visit A)) (v : Visit A) → Expanded same T start step l (v .key) → extend same keyOf l (kids T step v) ≡ l
+  no-new-kid l v h =
+      nothing-new same keyOf l (kids T step v) (λ w m. let r = kid-by-step same T start step v w m in h (r .thread) (r .there) (w .key) (r .made))
+
+  pub kids-offered : (l : List (Visit A)) (v : Visit A) → Expanded same T start step (extend same keyOf l (kids T step v)) (v .key)
+  kids-offered l v t lt b h = offered-is-known same keyOf (laws .same-self) l (kids T step v) (step-gives-kid same T start step v t lt b h)
+
+  -- The kids of a visit whose situation an earlier visit has are known.
+  kids-of-news : (l seen vs : List (Visit A)) → ((a : A) → Known same keyOf a seen → Expanded same T start step l a)
+      → extend same keyOf l (flatMap (kids T step) vs) ≡ extend same keyOf l (flatMap (kids T step) (news same keyOf seen vs))
+  unfolding flatMap
+  kids-of-news l seen [] h = ap (λ m. extend same keyOf l (flatMap (kids T step) m)) (sym (news-none same keyOf seen))
+  kids-of-news l seen (v ∷ vs) h =
+      extend-append same keyOf l (kids T step v) (flatMap (kids T step) vs)
+      ∙ turn (known same keyOf (v .key) seen) refl (kids-of-news l seen vs h) (kids-of-news l′ (seen ++ v ∷ []) vs more)
+    where
+      l′ : List (Visit A)
+      l′ = extend same keyOf l (kids T step v)
+
+      more : (a : A) → Known same keyOf a (seen ++ v ∷ []) → Expanded same T start step l′ a
+      more a k = ⊎-elim old new (known-in-append same keyOf a seen (v ∷ []) k)
+        where
+          old : Known same keyOf a seen → Expanded same T start step l′ a
+          old q t lt b e = known-stays same keyOf b l (kids T step v) (h a q t lt b e)
+
+          new : Known same keyOf a (v ∷ []) → Expanded same T start step l′ a
+          new q =
+              let r = known-member same keyOf (laws .same-means) a (v ∷ []) q in
+              subst (Expanded same T start step l′) (ap keyOf (sym (List·Memᴰ·eq-of-singleton (r .1))) ∙ sym (r .2)) (kids-offered l v)
+
+      turn : (b : Bool) → known same keyOf (v .key) seen ≡ b
+          → extend same keyOf l (flatMap (kids T step) vs) ≡ extend same keyOf l (flatMap (kids T step) (news same keyOf seen vs))
+          → extend same keyOf l′ (flatMap (kids T step) vs) ≡ extend same keyOf l′ (flatMap (kids T step) (news same keyOf (seen ++ v ∷ []) vs))
+          → extend same keyOf l′ (flatMap (kids T step) vs) ≡ extend same keyOf l (flatMap (kids T step) (news same keyOf seen (v ∷ vs)))
+      turn true q e₁ e₂ =
+          ap (λ m. extend same keyOf m (flatMap (kids T step) vs)) (no-new-kid l v (h (v .key) q)) ∙ e₁
+          ∙ ap (λ m. extend same keyOf l (flatMap (kids T step) m)) (sym (news-known same keyOf seen v vs q))
+      turn false q e₁ e₂ =
+          e₂ ∙ sym (extend-append same keyOf l (kids T step v) (flatMap (kids T step) (news same keyOf (seen ++ v ∷ []) vs)))
+          ∙ ap (λ m. extend same keyOf l (flatMap (kids T step) m)) (sym (news-new same keyOf seen v vs q))
+
+  -- The first visits, one length after the other.
+  pub firsts-of-no-thread : firsts same T reached zero ≡ visit [] start ∷ []
+  unfolding firsts
+  firsts-of-no-thread =
+      ap (extend same keyOf []) (visits-of-no-thread laws) ∙ extend-from-nothing same keyOf (visit [] start) []
+      ∙ extend-done same keyOf (visit [] start ∷ [])
+
+  pub firsts-step-by-step : (n : ℕ) → firsts same T reached (suc n) ≡ expanded same T start step (firsts same T reached n)
+  unfolding firsts
+  firsts-step-by-step n =
+      ap (extend same keyOf []) (visits-step-by-step laws n)
+      ∙ extend-from-nothing same keyOf (visit [] start) (flatMap (kids T step) (visits T reached n))
+      ∙ kids-of-news (visit [] start ∷ []) [] (visits T reached n) (λ a k. absurd (nothing-known a k))
+      ∙ ap (λ m. expanded same T start step m) (sym (extend-adds-news same keyOf [] (visits T reached n)))
+    where
+      nothing-known : (a : A) → Known same keyOf a [] → ⊥
+      nothing-known a k = List·Memᴰ·not-nil (known-member same keyOf (laws .same-means) a [] k .1)
+
+  firsts-grow : (n : ℕ) → IsPrefix (firsts same T reached n) (firsts same T reached (suc n))
+  unfolding firsts visits upTo
+  firsts-grow n =
+      extend-front-grows same keyOf [] (visits T reached n) (visits T reached (suc n))
+      (filterMap (visitBy reached) (ofLength T (suc n)), sym (filterMap-append (visitBy reached) (upTo T n) (ofLength T (suc n))))
+
+  pub firsts-front : (n m : ℕ) → n ≤ m → IsPrefix (firsts same T reached n) (firsts same T reached m)
+  firsts-front n m le =
+      le-ind (λ k. IsPrefix (firsts same T reached n) (firsts same T reached k)) (front-of-itself (firsts same T reached n))
+      (λ k h p. front-of-front (firsts same T reached n) (firsts same T reached k) (firsts same T reached (suc k)) p (firsts-grow k)) m le
