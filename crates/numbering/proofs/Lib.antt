@@ -3,3 +3,5 @@ pub mod Extend
 pub mod Schedules
 pub mod Visits
 pub mod Firsts
+pub mod Turns
+pub mod Numbered
