@@ -5,3 +5,4 @@ pub mod Visits
 pub mod Firsts
 pub mod Turns
 pub mod Numbered
+pub mod Origins
