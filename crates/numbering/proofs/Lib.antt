@@ -6,3 +6,4 @@ pub mod Firsts
 pub mod Turns
 pub mod Numbered
 pub mod Origins
+pub mod Entries

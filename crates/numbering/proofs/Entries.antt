@@ -1,0 +1,130 @@
+-- The queue's entries are those of the numbering: the first N + 1 agree for every N, and looking at longer schedules changes nothing.
+use Prim.Native.Nat.{ℕ, zero, suc, _≤_, _<_}
+use native.Mathlib.Omega.{arith}
+use mathlib.Core.Path.{_≡_, refl, sym, ap, _∙_, subst}
+use mathlib.Core.Logic.{_⊎_, inl, inr, ⊎-elim}
+use mathlib.Core.Bool.{Bool, true, false, _||_, cond}
+use mathlib.Core.List.{List, [], _∷_, _++_, map, dropLast, map-map, IsPrefix}
+use mathlib.Core.Option.{Option, none, some, Option·elim, bind, Option·some-injective}
+use lib.ListN.{length, take, getElem?, length-append, length-map}
+use Rattle.numbering.specs.Schedule.{Schedule}
+use Rattle.numbering.specs.Numbering.{Visit, Entry, known, number, firsts, byOf, fromOf, entryOf, entries}
+use Rattle.numbering.specs.Queue.{first, queue, Steps}
+use Rattle.numbering.proofs.Lists.{nothing-there, place-in-range, place-of-map, place-behind-front, taken-from-front, take-of-map, map-unchanged}
+use Rattle.numbering.proofs.Extend.{neither-true, known-image}
+use Rattle.numbering.proofs.Visits.{visit}
+use Rattle.numbering.proofs.Firsts.{keyOf}
+use Rattle.numbering.proofs.Turns.{entryKey, childTo}
+use Rattle.numbering.proofs.Numbered.{visitOf, tabled, table-in-firsts, same-first-visits}
+use Rattle.numbering.proofs.Origins.{Parent, Rooted, along-parents, placed, queue-rooted}
+
+-- A schedule with one thread more.
+by-last-thread : (s : Schedule) (t : ℕ) → byOf (s ++ t ∷ []) ≡ suc t
+unfolding byOf
+by-last-thread [] t = refl
+by-last-thread (u ∷ []) t = refl
+by-last-thread (u ∷ v ∷ s) t = by-last-thread (v ∷ s) t
+
+without-last-thread : (s : Schedule) (t : ℕ) → dropLast (s ++ t ∷ []) ≡ s
+without-last-thread [] t = refl
+without-last-thread (u ∷ []) t = refl
+without-last-thread (u ∷ v ∷ s) t = ap (λ r. u ∷ r) (without-last-thread (v ∷ s) t)
+
+from-before-last : {A : Type 0} (same : A → A → Bool) (reached : Schedule → Option A) (vs : List (Visit A)) (s : Schedule) (t : ℕ)
+    → fromOf same reached vs (s ++ t ∷ []) ≡ Option·elim (reached s) 0 (number same keyOf vs)
+unfolding fromOf
+from-before-last same reached vs [] t = refl
+from-before-last same reached vs (u ∷ s) t = ap (λ r. Option·elim (reached r) 0 (number same keyOf vs)) (without-last-thread (u ∷ s) t)
+
+-- The number of a situation is the place that has it first.
+number-at-place : {A X : Type 0} (same : A → A → Bool) (key : X → A) → ((a : A) → same a a ≡ true) → (l : List X) (i : ℕ) {x : X}
+    → getElem? l i ≡ some x → known same key (key x) (take i l) ≡ false → number same key l (key x) ≡ suc i
+unfolding number known
+number-at-place same key self [] i h fresh = absurd (nothing-there h)
+number-at-place same key self (y ∷ l) zero {x} h fresh =
+    ap (λ b. cond b 1 (suc (number same key l (key x)))) (ap (λ z. same (key x) (key z)) (Option·some-injective y x h) ∙ self (key x))
+number-at-place same key self (y ∷ l) (suc i) {x} h fresh =
+    let r = neither-true (same (key x) (key y)) (known same key (key x) (take i l)) fresh in
+    ap (λ b. cond b 1 (suc (number same key l (key x)))) (r .0) ∙ ap suc (number-at-place same key self l i h (r .1))
+
+module _ {A : Type 0} {same : A → A → Bool} {T : ℕ} {reached : Schedule → Option A} {start : A} {step : ℕ → A → Option A}
+    (laws : Steps same T reached start step) where
+  -- Each entry's path reaches its situation.
+  pub path-reaches : (q : List (Entry A)) → Rooted T start step q → (k : ℕ) (x : Entry A) → getElem? q k ≡ some x → reached (x .path) ≡ some (x .key)
+  unfolding first bind
+  path-reaches q rooted =
+      along-parents T start step q rooted (λ k x. reached (x .path) ≡ some (x .key)) (laws .at-start)
+      (λ k x p below. ap (λ z. reached (z .path)) (p .child-is) ∙ laws .one-more (p .parent .path) (p .thread) (p .is-thread)
+      ∙ ap (λ o. bind o (step (p .thread))) below ∙ p .made)
+
+  number-in-table : (i n : ℕ) → i ≤ n → (k : ℕ) (x : Entry A) → getElem? (queue same T start step i) k ≡ some x
+      → number same keyOf (firsts same T reached n) (x .key) ≡ suc k
+  number-in-table i n le k x h = number-at-place same keyOf (laws .same-self) (firsts same T reached n) k {x = visitOf x} at fresh
+    where
+      q : List (Entry A)
+      q = queue same T start step i
+
+      front : IsPrefix (tabled same T start step i) (firsts same T reached n)
+      front = table-in-firsts laws i n le
+
+      at : getElem? (firsts same T reached n) k ≡ some (visitOf x)
+      at = place-behind-front (tabled same T start step i) (firsts same T reached n) front k (place-of-map visitOf q k h)
+
+      short : k ≤ length (tabled same T start step i)
+      short = omega (arith, place-in-range q k h, length-map q visitOf)
+
+      fresh : known same keyOf (x .key) (take k (firsts same T reached n)) ≡ false
+      fresh =
+          ap (known same keyOf (x .key))
+          (taken-from-front k (tabled same T start step i) (firsts same T reached n) front short ∙ take-of-map visitOf k q)
+          ∙ known-image same same entryKey keyOf (λ a. a) visitOf (λ y. refl) (λ a. Unit) (λ a b g l. refl) (x .key) tt (take k q) (λ y m. tt)
+          ∙ placed same T start step i k x h .fresh
+
+  as-numbered : (i n : ℕ) → i ≤ n → (k : ℕ) (x : Entry A) → getElem? (queue same T start step i) k ≡ some x
+      → entryOf same reached (firsts same T reached n) (visitOf x) ≡ x
+  unfolding entryOf fromOf byOf first Option·elim
+  as-numbered i n le k x h = ⊎-elim root child (queue-rooted same T start step i k x h)
+    where
+      vs : List (Visit A)
+      vs = firsts same T reached n
+
+      root : (k ≡ 0) × (x ≡ first start) → entryOf same reached vs (visitOf x) ≡ x
+      root e = subst (λ z. entryOf same reached vs (visitOf z) ≡ z) (sym (e .1)) refl
+
+      child : Parent T start step (queue same T start step i) k x → entryOf same reached vs (visitOf x) ≡ x
+      child p = subst (λ z. entryOf same reached vs (visitOf z) ≡ z) (sym (p .child-is)) is
+        where
+          y : Entry A
+          y = p .parent
+
+          from-is : fromOf same reached vs (y .path ++ p .thread ∷ []) ≡ suc (p .index)
+          from-is =
+              from-before-last same reached vs (y .path) (p .thread)
+              ∙ ap (λ o. Option·elim o 0 (number same keyOf vs))
+                (path-reaches (queue same T start step i) (queue-rooted same T start step i) (p .index) y (p .there))
+              ∙ number-in-table i n le (p .index) y (p .there)
+
+          is : entryOf same reached vs (visitOf (childTo (p .index) y (p .thread) (x .key))) ≡ childTo (p .index) y (p .thread) (x .key)
+          is =
+              λ j. record {
+                from = from-is j;
+                by = by-last-thread (y .path) (p .thread) j;
+                path = y .path ++ p .thread ∷ [];
+                key = x .key
+              }
+
+  -- Theorem: for every N the first N + 1 entries are the queue's, however long the schedules are that one looks at.
+  pub entries-by-queue : (N n : ℕ) → N ≤ n → take (suc N) (entries same T reached n) ≡ take (suc N) (queue same T start step N)
+  unfolding entries
+  entries-by-queue N n le =
+      take-of-map (entryOf same reached vs) (suc N) vs ∙ ap (map (entryOf same reached vs)) (same-first-visits laws N n le)
+      ∙ sym (take-of-map (entryOf same reached vs) (suc N) (tabled same T start step N))
+      ∙ ap (take (suc N)) (map-map (entryOf same reached vs) visitOf (queue same T start step N)
+      ∙ map-unchanged (λ x. entryOf same reached vs (visitOf x)) (queue same T start step N) (as-numbered N n le))
+    where
+      vs : List (Visit A)
+      vs = firsts same T reached n
+
+  -- Theorem: longer schedules change nothing.
+  pub longer-schedules-change-nothing : (N n : ℕ) → N ≤ n → take (suc N) (entries same T reached n) ≡ take (suc N) (entries same T reached N)
+  longer-schedules-change-nothing N n le = entries-by-queue N n le ∙ sym (entries-by-queue N N (omega arith))
