@@ -7,3 +7,4 @@ pub mod Turns
 pub mod Numbered
 pub mod Origins
 pub mod Entries
+pub mod Cut
