@@ -8,3 +8,4 @@ pub mod Numbered
 pub mod Origins
 pub mod Entries
 pub mod Cut
+pub mod FirstSchedules
