@@ -9,3 +9,4 @@ pub mod Origins
 pub mod Entries
 pub mod Cut
 pub mod FirstSchedules
+pub mod Table

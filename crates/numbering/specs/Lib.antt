@@ -2,3 +2,4 @@ pub mod Schedule
 pub mod Numbering
 pub mod Verdict
 pub mod Queue
+pub mod Back
