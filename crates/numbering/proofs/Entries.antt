@@ -19,13 +19,13 @@ use Rattle.numbering.proofs.Numbered.{visitOf, tabled, table-in-firsts,
 use Rattle.numbering.proofs.Origins.{Parent, Rooted, along-parents, placed, queue-rooted}
 
 -- A schedule with one thread more.
-by-last-thread : (s : Schedule) (t : ℕ) → byOf (s ++ t ∷ []) ≡ suc t
+pub by-last-thread : (s : Schedule) (t : ℕ) → byOf (s ++ t ∷ []) ≡ suc t
 unfolding byOf
 by-last-thread [] t = refl
 by-last-thread (u ∷ []) t = refl
 by-last-thread (u ∷ v ∷ s) t = by-last-thread (v ∷ s) t
 
-without-last-thread : (s : Schedule) (t : ℕ) → dropLast (s ++ t ∷ []) ≡ s
+pub without-last-thread : (s : Schedule) (t : ℕ) → dropLast (s ++ t ∷ []) ≡ s
 without-last-thread [] t = refl
 without-last-thread (u ∷ []) t = refl
 without-last-thread (u ∷ v ∷ s) t = ap (λ r. u ∷ r) (without-last-thread (v ∷ s) t)

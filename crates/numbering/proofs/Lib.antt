@@ -10,3 +10,5 @@ pub mod Entries
 pub mod Cut
 pub mod FirstSchedules
 pub mod Table
+pub mod Prefixes
+pub mod Verdicts

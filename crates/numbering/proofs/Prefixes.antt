@@ -1,0 +1,86 @@
+-- The prefix of a first schedule is the first schedule of its own situation, which stands at an earlier place.
+use Prim.Native.Nat.{ℕ, zero, suc, _+_, _≤_, _<_}
+use native.Mathlib.Omega.{arith}
+use mathlib.Core.Path.{_≡_, refl, sym, ap, _∙_, subst}
+use mathlib.Core.Logic.{_⊎_, inl, inr, ⊎-elim}
+use mathlib.Core.Bool.{Bool}
+use mathlib.Core.List.{List, [], _∷_, _++_, map, dropLast, nil≢cons, IsPrefix}
+use mathlib.Core.Option.{Option, none, some}
+use lib.ListN.{length, take, getElem?, length-append}
+use Rattle.numbering.specs.Schedule.{Schedule}
+use Rattle.numbering.specs.Numbering.{Visit, Entry, byOf, firsts, entries, FirstSchedule}
+use Rattle.numbering.specs.Queue.{first, queue, Steps}
+use Rattle.numbering.proofs.Lists.{front-taken, place-behind-front, place-in-front, place-of-front, place-in-map, place-of-map}
+use Rattle.numbering.proofs.Visits.{visit}
+use Rattle.numbering.proofs.Firsts.{firsts-front}
+use Rattle.numbering.proofs.FirstSchedules.{place-has-first-schedule, first-schedule-placed}
+use Rattle.numbering.proofs.Numbered.{visitOf, tabled, table-in-firsts, same-first-visits}
+use Rattle.numbering.proofs.Origins.{Parent, Rooted, rooted-front, queue-rooted}
+use Rattle.numbering.proofs.Entries.{by-last-thread, without-last-thread, entries-by-queue}
+
+module _ {A : Type 0} {same : A → A → Bool} {T : ℕ} {reached : Schedule → Option A} {start : A} {step : ℕ → A → Option A}
+    (laws : Steps same T reached start step) where
+  -- A place among the first visits is that place of the queue, once as many places are expanded.
+  pub place-in-queue : (n k : ℕ) (v : Visit A) → getElem? (firsts same T reached n) k ≡ some v
+      → (x : Entry A) × (getElem? (queue same T start step (n + k)) k ≡ some x) × (visitOf x ≡ v)
+  place-in-queue n k v h = place-in-map visitOf (queue same T start step N) k (place-of-front (suc N) (tabled same T start step N) k in-front .1)
+    where
+      N : ℕ
+      N = n + k
+
+      in-firsts : getElem? (firsts same T reached N) k ≡ some v
+      in-firsts = place-behind-front (firsts same T reached n) (firsts same T reached N) (firsts-front laws n N (omega arith)) k h
+
+      in-front : getElem? (take (suc N) (tabled same T start step N)) k ≡ some v
+      in-front =
+          subst (λ l. getElem? l k ≡ some v) (same-first-visits laws N N (omega arith))
+          (place-in-front (suc N) (firsts same T reached N) k (omega arith) in-firsts)
+
+  pub queue-has-first-schedules : (i k : ℕ) (x : Entry A) → getElem? (queue same T start step i) k ≡ some x → FirstSchedule reached (x .path) (x .key)
+  queue-has-first-schedules i k x h =
+      place-has-first-schedule laws i k (visitOf x)
+      (place-behind-front (tabled same T start step i) (firsts same T reached i) (table-in-firsts laws i i (omega arith)) k
+      (place-of-map visitOf (queue same T start step i) k h))
+
+  -- Theorem: the prefix of a first schedule is the first schedule of its own situation.
+  pub prefix-of-first-schedule : (s : Schedule) (t : ℕ) (b : A) → FirstSchedule reached (s ++ t ∷ []) b → (a : A) × FirstSchedule reached s a × (step t a ≡ some b)
+  unfolding first
+  prefix-of-first-schedule s t b f = ⊎-elim root child (queue-rooted same T start step N k x (w .1))
+    where
+      n : ℕ
+      n = length (s ++ t ∷ [])
+
+      p : (k : ℕ) × (getElem? (firsts same T reached n) k ≡ some (visit (s ++ t ∷ []) b))
+      p = first-schedule-placed laws (s ++ t ∷ []) b f n (omega arith)
+
+      k : ℕ
+      k = p .0
+
+      N : ℕ
+      N = n + k
+
+      w : (x : Entry A) × (getElem? (queue same T start step N) k ≡ some x) × (visitOf x ≡ visit (s ++ t ∷ []) b)
+      w = place-in-queue n k (visit (s ++ t ∷ []) b) (p .1)
+
+      x : Entry A
+      x = w .0
+
+      root : (k ≡ 0) × (x ≡ first start) → (a : A) × FirstSchedule reached s a × (step t a ≡ some b)
+      root e = absurd (let l : 0 ≡ length (s ++ t ∷ []) = ap (λ z. length (z .path)) (sym (e .1)) ∙ ap (λ v. length (v .path)) (w .2) in
+          omega (arith, length-append s (t ∷ [])))
+
+      child : Parent T start step (queue same T start step N) k x → (a : A) × FirstSchedule reached s a × (step t a ≡ some b)
+      child r =
+          let e : r .parent .path ++ r .thread ∷ [] ≡ s ++ t ∷ [] = ap (λ z. z .path) (sym (r .child-is)) ∙ ap (λ v. v .path) (w .2) in
+          let path-is : r .parent .path ≡ s = sym (without-last-thread (r .parent .path) (r .thread)) ∙ ap dropLast e ∙ without-last-thread s t in
+          let thread-is : suc (r .thread) ≡ suc t = sym (by-last-thread (r .parent .path) (r .thread)) ∙ ap byOf e ∙ by-last-thread s t in
+          (r .parent .key,
+            subst (λ z. FirstSchedule reached z (r .parent .key)) path-is (queue-has-first-schedules N (r .index) (r .parent) (r .there)),
+            ap (λ u. step u (r .parent .key)) (omega arith) ∙ r .made ∙ ap (λ v. some (v .key)) (w .2))
+
+  -- Theorem: of the first n + 1 entries, the first has the start, and every other is a child of an earlier one.
+  pub entries-rooted : (n : ℕ) → Rooted T start step (take (suc n) (entries same T reached n))
+  entries-rooted n =
+      subst (Rooted T start step) (sym (entries-by-queue laws n n (omega arith)))
+      (rooted-front T start step (take (suc n) (queue same T start step n)) (queue same T start step n)
+      (front-taken (suc n) (queue same T start step n)) (queue-rooted same T start step n))
