@@ -12,3 +12,6 @@ pub mod FirstSchedules
 pub mod Table
 pub mod Prefixes
 pub mod Verdicts
+pub mod Search
+pub mod Images
+pub mod Example
