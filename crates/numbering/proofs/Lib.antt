@@ -14,4 +14,5 @@ pub mod Prefixes
 pub mod Verdicts
 pub mod Search
 pub mod Images
+pub mod Simulation
 pub mod Example
