@@ -101,7 +101,7 @@ module _ {A : Type 0} {same : A → A → Bool} {T : ℕ} {reached : Schedule �
           from-is =
               from-before-last same reached vs (y .path) (p .thread)
               ∙ ap (λ o. Option·elim o 0 (number same keyOf vs))
-                (path-reaches (queue same T start step i) (queue-rooted same T start step i) (p .index) y (p .there))
+              (path-reaches (queue same T start step i) (queue-rooted same T start step i) (p .index) y (p .there))
               ∙ number-in-table i n le (p .index) y (p .there)
 
           is : entryOf same reached vs (visitOf (childTo (p .index) y (p .thread) (x .key))) ≡ childTo (p .index) y (p .thread) (x .key)
@@ -110,7 +110,7 @@ module _ {A : Type 0} {same : A → A → Bool} {T : ℕ} {reached : Schedule �
                 from = from-is j;
                 by = by-last-thread (y .path) (p .thread) j;
                 path = y .path ++ p .thread ∷ [];
-                key = x .key
+                key = x .key;
               }
 
   -- Theorem: for every N the first N + 1 entries are the queue's, however long the schedules are that one looks at.

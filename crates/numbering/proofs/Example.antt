@@ -51,7 +51,7 @@ entry from by path key = record { from = from; by = by; path = path; key = key }
 -- The definition itself, over all schedules of at most three threads.
 entries-of-three : entries eqb 2 (reached 3) 3 ≡ entry 0 0 [] 0 ∷ entry 1 1 (0 ∷ []) 1 ∷ entry 2 1 (0 ∷ 0 ∷ []) 2 ∷ []
 unfolding entries entryOf fromOf byOf firsts visits upTo ofLength threadsFrom number known extend keepUnless
-  reached situationAfter after bind count entry flatMap filterMap Option·elim
+    reached situationAfter after bind count entry flatMap filterMap Option·elim
 entries-of-three = refl
 
 -- The verdict for N places, by the theorem and the queue: 2^101 - 1 schedules stand behind the last one.

@@ -70,7 +70,7 @@ module _ {A : Type 0} {same : A → A → Bool} {T : ℕ} {reached : Schedule �
   place-has-first-schedule n k v h =
       record {
         reaches = visit-is-run laws n (subst (Member v) (sym (r .split)) (Memᴰ·append-right (r .before) (List·Memᴰ·head refl)));
-        earliest = λ s run. first-passing n k v h (λ b. b ≡ v .key) differs s (v .key) run refl
+        earliest = λ s run. first-passing n k v h (λ b. b ≡ v .key) differs s (v .key) run refl;
       }
     where
       r : Added same keyOf [] (visits T reached n) k v

@@ -37,7 +37,7 @@ module _ {A : Type 0} (same : A → A → Bool) (T : ℕ) (start : A) (step : �
         thread = r .0;
         there = omega (arith, thread-in-range 0 T (r .1));
         made = q .1 ∙ ap (λ z. some (z .key)) (q .2);
-        longer = ap (λ z. z .path) (sym (q .2))
+        longer = ap (λ z. z .path) (sym (q .2));
       }
 
   pub step-gives-kid : (v : Visit A) (t : ℕ) → t < T → (b : A) → step t (v .key) ≡ some b → Member (visit (v .path ++ t ∷ []) b) (kids T step v)

@@ -39,7 +39,7 @@ module _ {A : Type 0} (same : A → A → Bool) (T : ℕ) (start : A) (step : �
   tabled-expands i x h =
       ap (map visitOf) (queue-expands same T start step i x h)
       ∙ extend-image same same entryKey keyOf (λ a. a) visitOf (λ y. refl) (λ a. Unit) (λ a b g k. refl) (queue same T start step i)
-        (childrenBy step i x (threads T)) (λ y m. tt) (λ y m. tt)
+      (childrenBy step i x (threads T)) (λ y m. tt) (λ y m. tt)
       ∙ ap (extend same keyOf (tabled i)) (visits-of-children i x)
 
   expanded-one-more : (l : List (Visit A)) (v : Visit A)
@@ -47,7 +47,7 @@ module _ {A : Type 0} (same : A → A → Bool) (T : ℕ) (start : A) (step : �
   expanded-one-more l v =
       sym (extend-append same keyOf (visit [] start ∷ []) (flatMap (kids T step) l) (kids T step v))
       ∙ ap (extend same keyOf (visit [] start ∷ []))
-        (ap (λ m. flatMap (kids T step) l ++ m) (sym (pieces-of-one (kids T step) v)) ∙ sym (pieces-of-append (kids T step) l (v ∷ [])))
+      (ap (λ m. flatMap (kids T step) l ++ m) (sym (pieces-of-one (kids T step) v)) ∙ sym (pieces-of-append (kids T step) l (v ∷ [])))
 
   -- The table is the start and then what is new among the kids of its own first i places.
   tabled-by-expansion : (i : ℕ) → tabled i ≡ expanded same T start step (map visitOf (take i (queue same T start step i)))

@@ -73,10 +73,11 @@ module _ {A : Type 0} {same : A → A → Bool} {T : ℕ} {reached : Schedule �
       child r =
           let e : r .parent .path ++ r .thread ∷ [] ≡ s ++ t ∷ [] = ap (λ z. z .path) (sym (r .child-is)) ∙ ap (λ v. v .path) (w .2) in
           let path-is : r .parent .path ≡ s = sym (without-last-thread (r .parent .path) (r .thread)) ∙ ap dropLast e ∙ without-last-thread s t in
-          let thread-is : suc (r .thread) ≡ suc t = sym (by-last-thread (r .parent .path) (r .thread)) ∙ ap byOf e ∙ by-last-thread s t in
-          (r .parent .key,
+          let thread-is : suc (r .thread) ≡ suc t = sym (by-last-thread (r .parent .path) (r .thread)) ∙ ap byOf e ∙ by-last-thread s t in (
+            r .parent .key,
             subst (λ z. FirstSchedule reached z (r .parent .key)) path-is (queue-has-first-schedules N (r .index) (r .parent) (r .there)),
-            ap (λ u. step u (r .parent .key)) (omega arith) ∙ r .made ∙ ap (λ v. some (v .key)) (w .2))
+            ap (λ u. step u (r .parent .key)) (omega arith) ∙ r .made ∙ ap (λ v. some (v .key)) (w .2),
+          )
 
   -- Theorem: of the first n + 1 entries, the first has the start, and every other is a child of an earlier one.
   pub entries-rooted : (n : ℕ) → Rooted T start step (take (suc n) (entries same T reached n))

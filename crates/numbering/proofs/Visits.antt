@@ -28,7 +28,6 @@ kids T step v = filterMap (λ t. Option·map (visit (v .path ++ t ∷ [])) (step
 
 module _ {A : Type 0} {same : A → A → Bool} {T : ℕ} {reached : Schedule → Option A} {start : A} {step : ℕ → A → Option A}
     (laws : Steps same T reached start step) where
-
   after-one : (s : Schedule) → filterMap (visitBy reached) (followed T s) ≡ Option·elim (visitBy reached s) [] (kids T step)
   unfolding kids bind Option·elim
   after-one s =
