@@ -15,7 +15,8 @@ use Rattle.numbering.proofs.Extend.{neither-true, known-image}
 use Rattle.numbering.proofs.Visits.{visit}
 use Rattle.numbering.proofs.Firsts.{keyOf}
 use Rattle.numbering.proofs.Turns.{entryKey, childTo}
-use Rattle.numbering.proofs.Numbered.{visitOf, tabled, table-in-firsts, same-first-visits}
+use Rattle.numbering.proofs.Expansion.{visitOf}
+use Rattle.numbering.proofs.Numbered.{table-in-firsts, same-first-visits}
 use Rattle.numbering.proofs.Origins.{Parent, Rooted, along-parents, placed, queue-rooted}
 
 -- A schedule with one thread more.
@@ -49,6 +50,12 @@ number-at-place same key self (y ∷ l) (suc i) {x} h fresh =
 
 module _ {A : Type 0} {same : A → A → Bool} {T : ℕ} {reached : Schedule → Option A} {start : A} {step : ℕ → A → Option A}
     (laws : Steps same T reached start step) where
+  abbrev table : ℕ → List (Entry A)
+  table i = queue same T start step i
+
+  abbrev numbered : ℕ → List (Visit A)
+  numbered n = firsts same T reached n
+
   -- Each entry's path reaches its situation.
   pub path-reaches : (q : List (Entry A)) → Rooted T start step q → (k : ℕ) (x : Entry A) → getElem? q k ≡ some x → reached (x .path) ≡ some (x .key)
   unfolding first bind
@@ -57,41 +64,41 @@ module _ {A : Type 0} {same : A → A → Bool} {T : ℕ} {reached : Schedule �
       (λ k x p below. ap (λ z. reached (z .path)) (p .child-is) ∙ laws .one-more (p .parent .path) (p .thread) (p .is-thread)
       ∙ ap (λ o. bind o (step (p .thread))) below ∙ p .made)
 
-  number-in-table : (i n : ℕ) → i ≤ n → (k : ℕ) (x : Entry A) → getElem? (queue same T start step i) k ≡ some x
-      → number same keyOf (firsts same T reached n) (x .key) ≡ suc k
-  number-in-table i n le k x h = number-at-place same keyOf (laws .same-self) (firsts same T reached n) k {x = visitOf x} at fresh
+  number-in-table : (i n : ℕ) → i ≤ n → (k : ℕ) (x : Entry A) → getElem? (table i) k ≡ some x
+      → number same keyOf (numbered n) (x .key) ≡ suc k
+  number-in-table i n le k x h = number-at-place same keyOf (laws .same-self) (numbered n) k {x = visitOf x} at fresh
     where
       q : List (Entry A)
-      q = queue same T start step i
+      q = table i
 
-      front : IsPrefix (tabled same T start step i) (firsts same T reached n)
+      front : IsPrefix (map visitOf (table i)) (numbered n)
       front = table-in-firsts laws i n le
 
-      at : getElem? (firsts same T reached n) k ≡ some (visitOf x)
-      at = place-behind-front (tabled same T start step i) (firsts same T reached n) front k (place-of-map visitOf q k h)
+      at : getElem? (numbered n) k ≡ some (visitOf x)
+      at = place-behind-front (map visitOf (table i)) (numbered n) front k (place-of-map visitOf q k h)
 
-      short : k ≤ length (tabled same T start step i)
+      short : k ≤ length (map visitOf (table i))
       short = omega (arith, place-in-range q k h, length-map q visitOf)
 
-      fresh : known same keyOf (x .key) (take k (firsts same T reached n)) ≡ false
+      fresh : known same keyOf (x .key) (take k (numbered n)) ≡ false
       fresh =
           ap (known same keyOf (x .key))
-          (taken-from-front k (tabled same T start step i) (firsts same T reached n) front short ∙ take-of-map visitOf k q)
+          (taken-from-front k (map visitOf (table i)) (numbered n) front short ∙ take-of-map visitOf k q)
           ∙ known-image same same entryKey keyOf (λ a. a) visitOf (λ y. refl) (λ a. Unit) (λ a b g l. refl) (x .key) tt (take k q) (λ y m. tt)
           ∙ placed same T start step i k x h .fresh
 
-  as-numbered : (i n : ℕ) → i ≤ n → (k : ℕ) (x : Entry A) → getElem? (queue same T start step i) k ≡ some x
-      → entryOf same reached (firsts same T reached n) (visitOf x) ≡ x
+  as-numbered : (i n : ℕ) → i ≤ n → (k : ℕ) (x : Entry A) → getElem? (table i) k ≡ some x
+      → entryOf same reached (numbered n) (visitOf x) ≡ x
   unfolding entryOf fromOf byOf first Option·elim
   as-numbered i n le k x h = ⊎-elim root child (queue-rooted same T start step i k x h)
     where
       vs : List (Visit A)
-      vs = firsts same T reached n
+      vs = numbered n
 
       root : (k ≡ 0) × (x ≡ first start) → entryOf same reached vs (visitOf x) ≡ x
       root e = subst (λ z. entryOf same reached vs (visitOf z) ≡ z) (sym (e .1)) refl
 
-      child : Parent T start step (queue same T start step i) k x → entryOf same reached vs (visitOf x) ≡ x
+      child : Parent T start step (table i) k x → entryOf same reached vs (visitOf x) ≡ x
       child p = subst (λ z. entryOf same reached vs (visitOf z) ≡ z) (sym (p .child-is)) is
         where
           y : Entry A
@@ -101,7 +108,7 @@ module _ {A : Type 0} {same : A → A → Bool} {T : ℕ} {reached : Schedule �
           from-is =
               from-before-last same reached vs (y .path) (p .thread)
               ∙ ap (λ o. Option·elim o 0 (number same keyOf vs))
-              (path-reaches (queue same T start step i) (queue-rooted same T start step i) (p .index) y (p .there))
+              (path-reaches (table i) (queue-rooted same T start step i) (p .index) y (p .there))
               ∙ number-in-table i n le (p .index) y (p .there)
 
           is : entryOf same reached vs (visitOf (childTo (p .index) y (p .thread) (x .key))) ≡ childTo (p .index) y (p .thread) (x .key)
@@ -114,16 +121,16 @@ module _ {A : Type 0} {same : A → A → Bool} {T : ℕ} {reached : Schedule �
               }
 
   -- Theorem: for every N the first N + 1 entries are the queue's, however long the schedules are that one looks at.
-  pub entries-by-queue : (N n : ℕ) → N ≤ n → take (suc N) (entries same T reached n) ≡ take (suc N) (queue same T start step N)
+  pub entries-by-queue : (N n : ℕ) → N ≤ n → take (suc N) (entries same T reached n) ≡ take (suc N) (table N)
   unfolding entries
   entries-by-queue N n le =
       take-of-map (entryOf same reached vs) (suc N) vs ∙ ap (map (entryOf same reached vs)) (same-first-visits laws N n le)
-      ∙ sym (take-of-map (entryOf same reached vs) (suc N) (tabled same T start step N))
-      ∙ ap (take (suc N)) (map-map (entryOf same reached vs) visitOf (queue same T start step N)
-      ∙ map-unchanged (λ x. entryOf same reached vs (visitOf x)) (queue same T start step N) (as-numbered N n le))
+      ∙ sym (take-of-map (entryOf same reached vs) (suc N) (map visitOf (table N)))
+      ∙ ap (take (suc N)) (map-map (entryOf same reached vs) visitOf (table N)
+      ∙ map-unchanged (λ x. entryOf same reached vs (visitOf x)) (table N) (as-numbered N n le))
     where
       vs : List (Visit A)
-      vs = firsts same T reached n
+      vs = numbered n
 
   -- Theorem: longer schedules change nothing.
   pub longer-schedules-change-nothing : (N n : ℕ) → N ≤ n → take (suc N) (entries same T reached n) ≡ take (suc N) (entries same T reached N)

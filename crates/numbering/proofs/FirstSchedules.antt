@@ -20,14 +20,17 @@ use Rattle.numbering.proofs.Firsts.{keyOf, firsts-front}
 
 module _ {A : Type 0} {same : A → A → Bool} {T : ℕ} {reached : Schedule → Option A} {start : A} {step : ℕ → A → Option A}
     (laws : Steps same T reached start step) where
+  abbrev numbered : ℕ → List (Visit A)
+  numbered n = firsts same T reached n
+
   -- A first visit among all visits.
-  first-visit-added : (n k : ℕ) (v : Visit A) → getElem? (firsts same T reached n) k ≡ some v → Added same keyOf [] (visits T reached n) k v
+  first-visit-added : (n k : ℕ) (v : Visit A) → getElem? (numbered n) k ≡ some v → Added same keyOf [] (visits T reached n) k v
   unfolding firsts
   first-visit-added n k v h = ⊎-elim (λ e. absurd (nothing-there e)) (λ r. r) (old-or-added same keyOf [] (visits T reached n) k h)
 
   -- Theorem: no schedule that passes a test is earlier than the first place that passes it.
-  pub first-passing : (n k : ℕ) (v : Visit A) → getElem? (firsts same T reached n) k ≡ some v → (P : A → Type 0)
-      → ((w : Visit A) → Member w (take k (firsts same T reached n)) → P (w .key) → ⊥)
+  pub first-passing : (n k : ℕ) (v : Visit A) → getElem? (numbered n) k ≡ some v → (P : A → Type 0)
+      → ((w : Visit A) → Member w (take k (numbered n)) → P (w .key) → ⊥)
       → (s : Schedule) (b : A) → reached s ≡ some b → P b → (s ≡ v .path) ⊎ Earlier (v .path) s
   unfolding firsts
   first-passing n k v h P none-before s b run p = ⊎-elim before here (List·Memᴰ·append-cases (r .before) listed)
@@ -35,17 +38,17 @@ module _ {A : Type 0} {same : A → A → Bool} {T : ℕ} {reached : Schedule �
       m : ℕ
       m = n + length s
 
-      front : IsPrefix (firsts same T reached n) (firsts same T reached m)
+      front : IsPrefix (numbered n) (numbered m)
       front = firsts-front laws n m (omega arith)
 
       r : Added same keyOf [] (visits T reached m) k v
-      r = first-visit-added m k v (place-behind-front (firsts same T reached n) (firsts same T reached m) front k h)
+      r = first-visit-added m k v (place-behind-front (numbered n) (numbered m) front k h)
 
-      short : k ≤ length (firsts same T reached n)
-      short = omega (arith, place-in-range (firsts same T reached n) k h)
+      short : k ≤ length (numbered n)
+      short = omega (arith, place-in-range (numbered n) k h)
 
-      same-front : extend same keyOf [] (r .before) ≡ take k (firsts same T reached n)
-      same-front = r .front ∙ taken-from-front k (firsts same T reached n) (firsts same T reached m) front short
+      same-front : extend same keyOf [] (r .before) ≡ take k (numbered n)
+      same-front = r .front ∙ taken-from-front k (numbered n) (numbered m) front short
 
       listed : Member (visit s b) (r .before ++ v ∷ r .after)
       listed = subst (Member (visit s b)) (r .split) (run-is-visit laws m s b run (omega arith))
@@ -53,7 +56,7 @@ module _ {A : Type 0} {same : A → A → Bool} {T : ℕ} {reached : Schedule �
       before : Member (visit s b) (r .before) → (s ≡ v .path) ⊎ Earlier (v .path) s
       before l =
           let c = subst (Known same keyOf b) same-front (offered-is-known same keyOf (laws .same-self) [] (r .before) l) in
-          let w = known-member same keyOf (laws .same-means) b (take k (firsts same T reached n)) c in
+          let w = known-member same keyOf (laws .same-means) b (take k (numbered n)) c in
           absurd (none-before (w .0) (w .1) (subst P (w .2) p))
 
       after : Member (visit s b) (r .after) → Earlier (v .path) s
@@ -65,7 +68,7 @@ module _ {A : Type 0} {same : A → A → Bool} {T : ℕ} {reached : Schedule �
       here l = ⊎-elim (λ e. inl (ap (λ x. x .path) e)) (λ l′. inr (after l′)) (List·Memᴰ·cases-cons l)
 
   -- Theorem: each place has the first schedule that reaches its situation.
-  pub place-has-first-schedule : (n k : ℕ) (v : Visit A) → getElem? (firsts same T reached n) k ≡ some v → FirstSchedule reached (v .path) (v .key)
+  pub place-has-first-schedule : (n k : ℕ) (v : Visit A) → getElem? (numbered n) k ≡ some v → FirstSchedule reached (v .path) (v .key)
   unfolding firsts
   place-has-first-schedule n k v h =
       record {
@@ -76,26 +79,26 @@ module _ {A : Type 0} {same : A → A → Bool} {T : ℕ} {reached : Schedule �
       r : Added same keyOf [] (visits T reached n) k v
       r = first-visit-added n k v h
 
-      differs : (w : Visit A) → Member w (take k (firsts same T reached n)) → w .key ≡ v .key → ⊥
+      differs : (w : Visit A) → Member w (take k (numbered n)) → w .key ≡ v .key → ⊥
       differs w l e =
-          not-both (subst (λ a. Known same keyOf a (take k (firsts same T reached n))) e
-          (member-is-known same keyOf (laws .same-self) (take k (firsts same T reached n)) l)) (r .fresh)
+          not-both (subst (λ a. Known same keyOf a (take k (numbered n))) e
+          (member-is-known same keyOf (laws .same-self) (take k (numbered n)) l)) (r .fresh)
 
   -- Every situation that a schedule of at most n threads reaches is among the first visits up to n.
-  pub every-situation-numbered : (n : ℕ) (s : Schedule) (a : A) → reached s ≡ some a → length s ≤ n → Known same keyOf a (firsts same T reached n)
+  pub every-situation-numbered : (n : ℕ) (s : Schedule) (a : A) → reached s ≡ some a → length s ≤ n → Known same keyOf a (numbered n)
   unfolding firsts
   every-situation-numbered n s a run le = offered-is-known same keyOf (laws .same-self) [] (visits T reached n) (run-is-visit laws n s a run le)
 
   -- A first schedule stands in the numbering.
   pub first-schedule-placed : (s : Schedule) (a : A) → FirstSchedule reached s a → (n : ℕ) → length s ≤ n
-      → (k : ℕ) × (getElem? (firsts same T reached n) k ≡ some (visit s a))
+      → (k : ℕ) × (getElem? (numbered n) k ≡ some (visit s a))
   first-schedule-placed s a f n le = (p .0, p .1 ∙ ap some is)
     where
-      w : (v : Visit A) × Member v (firsts same T reached n) × (a ≡ v .key)
-      w = known-member same keyOf (laws .same-means) a (firsts same T reached n) (every-situation-numbered n s a (f .reaches) le)
+      w : (v : Visit A) × Member v (numbered n) × (a ≡ v .key)
+      w = known-member same keyOf (laws .same-means) a (numbered n) (every-situation-numbered n s a (f .reaches) le)
 
-      p : (k : ℕ) × (getElem? (firsts same T reached n) k ≡ some (w .0))
-      p = place-of-member (firsts same T reached n) (w .1)
+      p : (k : ℕ) × (getElem? (numbered n) k ≡ some (w .0))
+      p = place-of-member (numbered n) (w .1)
 
       g : FirstSchedule reached (w .0 .path) (w .0 .key)
       g = place-has-first-schedule n (p .0) (w .0) (p .1)

@@ -60,72 +60,87 @@ module _ {A : Type 0} (same : A → A → Bool) (T : ℕ) (start : A) (step : �
 
 module _ {A : Type 0} {same : A → A → Bool} {T : ℕ} {reached : Schedule → Option A} {start : A} {step : ℕ → A → Option A}
     (laws : Steps same T reached start step) where
-  no-new-kid : (l : List (Visit A)) (v : Visit A) → Expanded same T start step l (v .key) → extend same keyOf l (kids T step v) ≡ l
-  no-new-kid l v h =
-      nothing-new same keyOf l (kids T step v) (λ w m. let r = kid-by-step same T start step v w m in h (r .thread) (r .there) (w .key) (r .made))
+  abbrev joined : List (Visit A) → List (Visit A) → List (Visit A)
+  joined l vs = extend same keyOf l vs
 
-  pub kids-offered : (l : List (Visit A)) (v : Visit A) → Expanded same T start step (extend same keyOf l (kids T step v)) (v .key)
-  kids-offered l v t lt b h = offered-is-known same keyOf (laws .same-self) l (kids T step v) (step-gives-kid same T start step v t lt b h)
+  abbrev kids-of : Visit A → List (Visit A)
+  kids-of v = kids T step v
+
+  abbrev grown : List (Visit A) → List (Visit A)
+  grown l = expanded same T start step l
+
+  abbrev StepsKnown : List (Visit A) → A → Type 0
+  StepsKnown l a = Expanded same T start step l a
+
+  abbrev numbered : ℕ → List (Visit A)
+  numbered n = firsts same T reached n
+
+  no-new-kid : (l : List (Visit A)) (v : Visit A) → StepsKnown l (v .key) → joined l (kids-of v) ≡ l
+  no-new-kid l v h =
+      nothing-new same keyOf l (kids-of v) (λ w m. let r = kid-by-step same T start step v w m in h (r .thread) (r .there) (w .key) (r .made))
+
+  pub kids-offered : (l : List (Visit A)) (v : Visit A) → StepsKnown (joined l (kids-of v)) (v .key)
+  kids-offered l v t lt b h = offered-is-known same keyOf (laws .same-self) l (kids-of v) (step-gives-kid same T start step v t lt b h)
 
   -- The kids of a visit whose situation an earlier visit has are known.
-  kids-of-news : (l seen vs : List (Visit A)) → ((a : A) → Known same keyOf a seen → Expanded same T start step l a)
-      → extend same keyOf l (flatMap (kids T step) vs) ≡ extend same keyOf l (flatMap (kids T step) (news same keyOf seen vs))
+  kids-of-news : (l seen vs : List (Visit A)) → ((a : A) → Known same keyOf a seen → StepsKnown l a)
+      → joined l (flatMap (kids-of) vs) ≡ joined l (flatMap (kids-of) (news same keyOf seen vs))
   unfolding flatMap
-  kids-of-news l seen [] h = ap (λ m. extend same keyOf l (flatMap (kids T step) m)) (sym (news-none same keyOf seen))
+  kids-of-news l seen [] h = ap (λ m. joined l (flatMap (kids-of) m)) (sym (news-none same keyOf seen))
   kids-of-news l seen (v ∷ vs) h =
-      extend-append same keyOf l (kids T step v) (flatMap (kids T step) vs)
+      extend-append same keyOf l (kids-of v) (flatMap (kids-of) vs)
       ∙ turn (known same keyOf (v .key) seen) refl (kids-of-news l seen vs h) (kids-of-news l′ (seen ++ v ∷ []) vs more)
     where
       l′ : List (Visit A)
-      l′ = extend same keyOf l (kids T step v)
+      l′ = joined l (kids-of v)
 
-      more : (a : A) → Known same keyOf a (seen ++ v ∷ []) → Expanded same T start step l′ a
+      more : (a : A) → Known same keyOf a (seen ++ v ∷ []) → StepsKnown l′ a
       more a k = ⊎-elim old new (known-in-append same keyOf a seen (v ∷ []) k)
         where
-          old : Known same keyOf a seen → Expanded same T start step l′ a
-          old q t lt b e = known-stays same keyOf b l (kids T step v) (h a q t lt b e)
+          old : Known same keyOf a seen → StepsKnown l′ a
+          old q t lt b e = known-stays same keyOf b l (kids-of v) (h a q t lt b e)
 
-          new : Known same keyOf a (v ∷ []) → Expanded same T start step l′ a
+          new : Known same keyOf a (v ∷ []) → StepsKnown l′ a
           new q =
               let r = known-member same keyOf (laws .same-means) a (v ∷ []) q in
-              subst (Expanded same T start step l′) (ap keyOf (sym (List·Memᴰ·eq-of-singleton (r .1))) ∙ sym (r .2)) (kids-offered l v)
+              subst (StepsKnown l′) (ap keyOf (sym (List·Memᴰ·eq-of-singleton (r .1))) ∙ sym (r .2)) (kids-offered l v)
 
       turn : (b : Bool) → known same keyOf (v .key) seen ≡ b
-          → extend same keyOf l (flatMap (kids T step) vs) ≡ extend same keyOf l (flatMap (kids T step) (news same keyOf seen vs))
-          → extend same keyOf l′ (flatMap (kids T step) vs) ≡ extend same keyOf l′ (flatMap (kids T step) (news same keyOf (seen ++ v ∷ []) vs))
-          → extend same keyOf l′ (flatMap (kids T step) vs) ≡ extend same keyOf l (flatMap (kids T step) (news same keyOf seen (v ∷ vs)))
+          → joined l (flatMap (kids-of) vs) ≡ joined l (flatMap (kids-of) (news same keyOf seen vs))
+          → joined l′ (flatMap (kids-of) vs) ≡ joined l′ (flatMap (kids-of) (news same keyOf (seen ++ v ∷ []) vs))
+          → joined l′ (flatMap (kids-of) vs) ≡ joined l (flatMap (kids-of) (news same keyOf seen (v ∷ vs)))
       turn true q e₁ e₂ =
-          ap (λ m. extend same keyOf m (flatMap (kids T step) vs)) (no-new-kid l v (h (v .key) q)) ∙ e₁
-          ∙ ap (λ m. extend same keyOf l (flatMap (kids T step) m)) (sym (news-known same keyOf seen v vs q))
+          ap (λ m. joined m (flatMap (kids-of) vs)) (no-new-kid l v (h (v .key) q)) ∙ e₁
+          ∙ ap (λ m. joined l (flatMap (kids-of) m)) (sym (news-known same keyOf seen v vs q))
       turn false q e₁ e₂ =
-          e₂ ∙ sym (extend-append same keyOf l (kids T step v) (flatMap (kids T step) (news same keyOf (seen ++ v ∷ []) vs)))
-          ∙ ap (λ m. extend same keyOf l (flatMap (kids T step) m)) (sym (news-new same keyOf seen v vs q))
+          e₂ ∙ sym (extend-append same keyOf l (kids-of v) (flatMap (kids-of) (news same keyOf (seen ++ v ∷ []) vs)))
+          ∙ ap (λ m. joined l (flatMap (kids-of) m)) (sym (news-new same keyOf seen v vs q))
 
   -- The first visits, one length after the other.
-  pub firsts-of-no-thread : firsts same T reached zero ≡ visit [] start ∷ []
+  pub firsts-of-no-thread : numbered zero ≡ visit [] start ∷ []
   unfolding firsts
   firsts-of-no-thread =
-      ap (extend same keyOf []) (visits-of-no-thread laws) ∙ extend-from-nothing same keyOf (visit [] start) []
+      ap (joined []) (visits-of-no-thread laws) ∙ extend-from-nothing same keyOf (visit [] start) []
       ∙ extend-done same keyOf (visit [] start ∷ [])
 
-  pub firsts-step-by-step : (n : ℕ) → firsts same T reached (suc n) ≡ expanded same T start step (firsts same T reached n)
+  pub firsts-step-by-step : (n : ℕ) → numbered (suc n) ≡ grown (numbered n)
   unfolding firsts
   firsts-step-by-step n =
-      ap (extend same keyOf []) (visits-step-by-step laws n)
-      ∙ extend-from-nothing same keyOf (visit [] start) (flatMap (kids T step) (visits T reached n))
+      ap (joined []) (visits-step-by-step laws n)
+      ∙ extend-from-nothing same keyOf (visit [] start) (flatMap (kids-of) (visits T reached n))
       ∙ kids-of-news (visit [] start ∷ []) [] (visits T reached n) (λ a k. absurd (nothing-known a k))
-      ∙ ap (λ m. expanded same T start step m) (sym (extend-adds-news same keyOf [] (visits T reached n)))
+      ∙ ap (λ m. grown m) (sym (extend-adds-news same keyOf [] (visits T reached n)))
     where
       nothing-known : (a : A) → Known same keyOf a [] → ⊥
       nothing-known a k = List·Memᴰ·not-nil (known-member same keyOf (laws .same-means) a [] k .1)
 
-  firsts-grow : (n : ℕ) → IsPrefix (firsts same T reached n) (firsts same T reached (suc n))
+  firsts-grow : (n : ℕ) → IsPrefix (numbered n) (numbered (suc n))
   unfolding firsts visits upTo
   firsts-grow n =
       extend-front-grows same keyOf [] (visits T reached n) (visits T reached (suc n))
       (filterMap (visitBy reached) (ofLength T (suc n)), sym (filterMap-append (visitBy reached) (upTo T n) (ofLength T (suc n))))
 
-  pub firsts-front : (n m : ℕ) → n ≤ m → IsPrefix (firsts same T reached n) (firsts same T reached m)
+  pub firsts-front : (n m : ℕ) → n ≤ m → IsPrefix (numbered n) (numbered m)
   firsts-front n m le =
-      le-ind (λ k. IsPrefix (firsts same T reached n) (firsts same T reached k)) (front-of-itself (firsts same T reached n))
-      (λ k h p. front-of-front (firsts same T reached n) (firsts same T reached k) (firsts same T reached (suc k)) p (firsts-grow k)) m le
+      le-ind (λ k. IsPrefix (numbered n) (numbered k)) (front-of-itself (numbered n))
+      (λ k h p. front-of-front (numbered n) (numbered k) (numbered (suc k)) p (firsts-grow k)) m le

@@ -4,6 +4,7 @@ pub mod Schedules
 pub mod Visits
 pub mod Firsts
 pub mod Turns
+pub mod Expansion
 pub mod Numbered
 pub mod Origins
 pub mod Entries

@@ -14,33 +14,40 @@ use Rattle.numbering.proofs.Lists.{front-taken, place-behind-front, pla
 use Rattle.numbering.proofs.Visits.{visit}
 use Rattle.numbering.proofs.Firsts.{firsts-front}
 use Rattle.numbering.proofs.FirstSchedules.{place-has-first-schedule, first-schedule-placed}
-use Rattle.numbering.proofs.Numbered.{visitOf, tabled, table-in-firsts, same-first-visits}
+use Rattle.numbering.proofs.Expansion.{visitOf}
+use Rattle.numbering.proofs.Numbered.{table-in-firsts, same-first-visits}
 use Rattle.numbering.proofs.Origins.{Parent, Rooted, rooted-front, queue-rooted}
 use Rattle.numbering.proofs.Entries.{by-last-thread, without-last-thread, entries-by-queue}
 
 module _ {A : Type 0} {same : A → A → Bool} {T : ℕ} {reached : Schedule → Option A} {start : A} {step : ℕ → A → Option A}
     (laws : Steps same T reached start step) where
+  abbrev table : ℕ → List (Entry A)
+  table i = queue same T start step i
+
+  abbrev numbered : ℕ → List (Visit A)
+  numbered n = firsts same T reached n
+
   -- A place among the first visits is that place of the queue, once as many places are expanded.
-  pub place-in-queue : (n k : ℕ) (v : Visit A) → getElem? (firsts same T reached n) k ≡ some v
-      → (x : Entry A) × (getElem? (queue same T start step (n + k)) k ≡ some x) × (visitOf x ≡ v)
-  place-in-queue n k v h = place-in-map visitOf (queue same T start step N) k (place-of-front (suc N) (tabled same T start step N) k in-front .1)
+  pub place-in-queue : (n k : ℕ) (v : Visit A) → getElem? (numbered n) k ≡ some v
+      → (x : Entry A) × (getElem? (table (n + k)) k ≡ some x) × (visitOf x ≡ v)
+  place-in-queue n k v h = place-in-map visitOf (table N) k (place-of-front (suc N) (map visitOf (table N)) k in-front .1)
     where
       N : ℕ
       N = n + k
 
-      in-firsts : getElem? (firsts same T reached N) k ≡ some v
-      in-firsts = place-behind-front (firsts same T reached n) (firsts same T reached N) (firsts-front laws n N (omega arith)) k h
+      in-firsts : getElem? (numbered N) k ≡ some v
+      in-firsts = place-behind-front (numbered n) (numbered N) (firsts-front laws n N (omega arith)) k h
 
-      in-front : getElem? (take (suc N) (tabled same T start step N)) k ≡ some v
+      in-front : getElem? (take (suc N) (map visitOf (table N))) k ≡ some v
       in-front =
           subst (λ l. getElem? l k ≡ some v) (same-first-visits laws N N (omega arith))
-          (place-in-front (suc N) (firsts same T reached N) k (omega arith) in-firsts)
+          (place-in-front (suc N) (numbered N) k (omega arith) in-firsts)
 
-  pub queue-has-first-schedules : (i k : ℕ) (x : Entry A) → getElem? (queue same T start step i) k ≡ some x → FirstSchedule reached (x .path) (x .key)
+  pub queue-has-first-schedules : (i k : ℕ) (x : Entry A) → getElem? (table i) k ≡ some x → FirstSchedule reached (x .path) (x .key)
   queue-has-first-schedules i k x h =
       place-has-first-schedule laws i k (visitOf x)
-      (place-behind-front (tabled same T start step i) (firsts same T reached i) (table-in-firsts laws i i (omega arith)) k
-      (place-of-map visitOf (queue same T start step i) k h))
+      (place-behind-front (map visitOf (table i)) (numbered i) (table-in-firsts laws i i (omega arith)) k
+      (place-of-map visitOf (table i) k h))
 
   -- Theorem: the prefix of a first schedule is the first schedule of its own situation.
   pub prefix-of-first-schedule : (s : Schedule) (t : ℕ) (b : A) → FirstSchedule reached (s ++ t ∷ []) b → (a : A) × FirstSchedule reached s a × (step t a ≡ some b)
@@ -50,7 +57,7 @@ module _ {A : Type 0} {same : A → A → Bool} {T : ℕ} {reached : Schedule �
       n : ℕ
       n = length (s ++ t ∷ [])
 
-      p : (k : ℕ) × (getElem? (firsts same T reached n) k ≡ some (visit (s ++ t ∷ []) b))
+      p : (k : ℕ) × (getElem? (numbered n) k ≡ some (visit (s ++ t ∷ []) b))
       p = first-schedule-placed laws (s ++ t ∷ []) b f n (omega arith)
 
       k : ℕ
@@ -59,7 +66,7 @@ module _ {A : Type 0} {same : A → A → Bool} {T : ℕ} {reached : Schedule �
       N : ℕ
       N = n + k
 
-      w : (x : Entry A) × (getElem? (queue same T start step N) k ≡ some x) × (visitOf x ≡ visit (s ++ t ∷ []) b)
+      w : (x : Entry A) × (getElem? (table N) k ≡ some x) × (visitOf x ≡ visit (s ++ t ∷ []) b)
       w = place-in-queue n k (visit (s ++ t ∷ []) b) (p .1)
 
       x : Entry A
@@ -69,7 +76,7 @@ module _ {A : Type 0} {same : A → A → Bool} {T : ℕ} {reached : Schedule �
       root e = absurd (let l : 0 ≡ length (s ++ t ∷ []) = ap (λ z. length (z .path)) (sym (e .1)) ∙ ap (λ v. length (v .path)) (w .2) in
           omega (arith, length-append s (t ∷ [])))
 
-      child : Parent T start step (queue same T start step N) k x → (a : A) × FirstSchedule reached s a × (step t a ≡ some b)
+      child : Parent T start step (table N) k x → (a : A) × FirstSchedule reached s a × (step t a ≡ some b)
       child r =
           let e : r .parent .path ++ r .thread ∷ [] ≡ s ++ t ∷ [] = ap (λ z. z .path) (sym (r .child-is)) ∙ ap (λ v. v .path) (w .2) in
           let path-is : r .parent .path ≡ s = sym (without-last-thread (r .parent .path) (r .thread)) ∙ ap dropLast e ∙ without-last-thread s t in
@@ -83,5 +90,5 @@ module _ {A : Type 0} {same : A → A → Bool} {T : ℕ} {reached : Schedule �
   pub entries-rooted : (n : ℕ) → Rooted T start step (take (suc n) (entries same T reached n))
   entries-rooted n =
       subst (Rooted T start step) (sym (entries-by-queue laws n n (omega arith)))
-      (rooted-front T start step (take (suc n) (queue same T start step n)) (queue same T start step n)
-      (front-taken (suc n) (queue same T start step n)) (queue-rooted same T start step n))
+      (rooted-front T start step (take (suc n) (table n)) (table n)
+      (front-taken (suc n) (table n)) (queue-rooted same T start step n))

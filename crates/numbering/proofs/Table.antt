@@ -62,17 +62,20 @@ module _ {A : Type 0} (q : List (Entry A)) where
 -- No two places of the queue have one situation.
 module _ {A : Type 0} {same : A → A → Bool} {T : ℕ} {reached : Schedule → Option A} {start : A} {step : ℕ → A → Option A}
     (laws : Steps same T reached start step) where
-  later-differs : (n j k : ℕ) (x y : Entry A) → getElem? (queue same T start step n) j ≡ some x → getElem? (queue same T start step n) k ≡ some y
+  abbrev table : ℕ → List (Entry A)
+  table i = queue same T start step i
+
+  later-differs : (n j k : ℕ) (x y : Entry A) → getElem? (table n) j ≡ some x → getElem? (table n) k ≡ some y
       → j < k → x .key ≡ y .key → ⊥
   later-differs n j k x y h e lt same-key =
       not-both (subst (λ a. Known same entryKey a front) same-key
-      (member-is-known same entryKey (laws .same-self) front (member-at-place front j (place-in-front k (queue same T start step n) j lt h))))
+      (member-is-known same entryKey (laws .same-self) front (member-at-place front j (place-in-front k (table n) j lt h))))
       (placed same T start step n k y e .fresh)
     where
       front : List (Entry A)
-      front = take k (queue same T start step n)
+      front = take k (table n)
 
-  pub keys-differ : (n j k : ℕ) (x y : Entry A) → getElem? (queue same T start step n) j ≡ some x → getElem? (queue same T start step n) k ≡ some y
+  pub keys-differ : (n j k : ℕ) (x y : Entry A) → getElem? (table n) j ≡ some x → getElem? (table n) k ≡ some y
       → x .key ≡ y .key → j ≡ k
   keys-differ n j k x y h e same-key = go (decLt j k) (decLt k j)
     where
