@@ -1,4 +1,5 @@
--- The queue's entries are those of the numbering: the first N + 1 agree for every N, and looking at longer schedules changes nothing.
+-- The queue's entries are those of the numbering: the first N + 1 agree for every N, and looking at longer schedules
+-- changes nothing.
 use Prim.Native.Nat.{ℕ, zero, suc, _≤_, _<_}
 use native.Mathlib.Omega.{arith}
 use mathlib.Core.Path.{_≡_, refl, sym, ap, _∙_, subst}
@@ -10,7 +11,8 @@ use lib.ListN.{length, take, getElem?, length-append, length-map}
 use Rattle.numbering.specs.Schedule.{Schedule}
 use Rattle.numbering.specs.Numbering.{Visit, Entry, known, number, firsts, byOf, fromOf, entryOf, entries}
 use Rattle.numbering.specs.Queue.{first, queue, Steps}
-use Rattle.numbering.proofs.Lists.{nothing-there, place-in-range, place-of-map, place-behind-front, taken-from-front, take-of-map, map-unchanged}
+use Rattle.numbering.proofs.Lists.{nothing-there, place-in-range, place-of-map, place-behind-front}
+use Rattle.numbering.proofs.Lists.{taken-from-front, take-of-map, map-unchanged}
 use Rattle.numbering.proofs.Extend.{neither-true, known-image}
 use Rattle.numbering.proofs.Visits.{visit}
 use Rattle.numbering.proofs.Firsts.{keyOf}
@@ -31,24 +33,29 @@ without-last-thread [] t = refl
 without-last-thread (u ∷ []) t = refl
 without-last-thread (u ∷ v ∷ s) t = ap (λ r. u ∷ r) (without-last-thread (v ∷ s) t)
 
-from-before-last : {A : Type 0} (same : A → A → Bool) (reached : Schedule → Option A) (vs : List (Visit A)) (s : Schedule) (t : ℕ)
+from-before-last : {A : Type 0} (same : A → A → Bool) (reached : Schedule → Option A) (vs : List (Visit A))
+    (s : Schedule) (t : ℕ)
     → fromOf same reached vs (s ++ t ∷ []) ≡ Option·elim (reached s) 0 (number same keyOf vs)
 unfolding fromOf
 from-before-last same reached vs [] t = refl
-from-before-last same reached vs (u ∷ s) t = ap (λ r. Option·elim (reached r) 0 (number same keyOf vs)) (without-last-thread (u ∷ s) t)
+from-before-last same reached vs (u ∷ s) t =
+    ap (λ r. Option·elim (reached r) 0 (number same keyOf vs)) (without-last-thread (u ∷ s) t)
 
 -- The number of a situation is the place that has it first.
-number-at-place : {A X : Type 0} (same : A → A → Bool) (key : X → A) → ((a : A) → same a a ≡ true) → (l : List X) (i : ℕ) {x : X}
+number-at-place : {A X : Type 0} (same : A → A → Bool) (key : X → A) → ((a : A) → same a a ≡ true)
+    → (l : List X) (i : ℕ) {x : X}
     → getElem? l i ≡ some x → known same key (key x) (take i l) ≡ false → number same key l (key x) ≡ suc i
 unfolding number known
 number-at-place same key self [] i h fresh = absurd (nothing-there h)
 number-at-place same key self (y ∷ l) zero {x} h fresh =
-    ap (λ b. cond b 1 (suc (number same key l (key x)))) (ap (λ z. same (key x) (key z)) (Option·some-injective y x h) ∙ self (key x))
+    ap (λ b. cond b 1 (suc (number same key l (key x))))
+    (ap (λ z. same (key x) (key z)) (Option·some-injective y x h) ∙ self (key x))
 number-at-place same key self (y ∷ l) (suc i) {x} h fresh =
     let r = neither-true (same (key x) (key y)) (known same key (key x) (take i l)) fresh in
     ap (λ b. cond b 1 (suc (number same key l (key x)))) (r .0) ∙ ap suc (number-at-place same key self l i h (r .1))
 
-module _ {A : Type 0} {same : A → A → Bool} {T : ℕ} {reached : Schedule → Option A} {start : A} {step : ℕ → A → Option A}
+module _ {A : Type 0} {same : A → A → Bool} {T : ℕ} {reached : Schedule → Option A} {start : A}
+    {step : ℕ → A → Option A}
     (laws : Steps same T reached start step) where
   abbrev table : ℕ → List (Entry A)
   table i = queue same T start step i
@@ -57,11 +64,13 @@ module _ {A : Type 0} {same : A → A → Bool} {T : ℕ} {reached : Schedule �
   numbered n = firsts same T reached n
 
   -- Each entry's path reaches its situation.
-  pub path-reaches : (q : List (Entry A)) → Rooted T start step q → (k : ℕ) (x : Entry A) → getElem? q k ≡ some x → reached (x .path) ≡ some (x .key)
+  pub path-reaches : (q : List (Entry A)) → Rooted T start step q → (k : ℕ) (x : Entry A) → getElem? q k ≡ some x
+      → reached (x .path) ≡ some (x .key)
   unfolding first bind
   path-reaches q rooted =
       along-parents T start step q rooted (λ k x. reached (x .path) ≡ some (x .key)) (laws .at-start)
-      (λ k x p below. ap (λ z. reached (z .path)) (p .child-is) ∙ laws .one-more (p .parent .path) (p .thread) (p .is-thread)
+      (λ k x p below. ap (λ z. reached (z .path)) (p .child-is)
+      ∙ laws .one-more (p .parent .path) (p .thread) (p .is-thread)
       ∙ ap (λ o. bind o (step (p .thread))) below ∙ p .made)
 
   number-in-table : (i n : ℕ) → i ≤ n → (k : ℕ) (x : Entry A) → getElem? (table i) k ≡ some x
@@ -84,7 +93,8 @@ module _ {A : Type 0} {same : A → A → Bool} {T : ℕ} {reached : Schedule �
       fresh =
           ap (known same keyOf (x .key))
           (taken-from-front k (map visitOf (table i)) (numbered n) front short ∙ take-of-map visitOf k q)
-          ∙ known-image same same entryKey keyOf (λ a. a) visitOf (λ y. refl) (λ a. Unit) (λ a b g l. refl) (x .key) tt (take k q) (λ y m. tt)
+          ∙ known-image same same entryKey keyOf (λ a. a) visitOf (λ y. refl) (λ a. Unit) (λ a b g l. refl) (x .key) tt
+          (take k q) (λ y m. tt)
           ∙ placed same T start step i k x h .fresh
 
   as-numbered : (i n : ℕ) → i ≤ n → (k : ℕ) (x : Entry A) → getElem? (table i) k ≡ some x
@@ -111,7 +121,8 @@ module _ {A : Type 0} {same : A → A → Bool} {T : ℕ} {reached : Schedule �
               (path-reaches (table i) (queue-rooted same T start step i) (p .index) y (p .there))
               ∙ number-in-table i n le (p .index) y (p .there)
 
-          is : entryOf same reached vs (visitOf (childTo (p .index) y (p .thread) (x .key))) ≡ childTo (p .index) y (p .thread) (x .key)
+          is : entryOf same reached vs (visitOf (childTo (p .index) y (p .thread) (x .key)))
+              ≡ childTo (p .index) y (p .thread) (x .key)
           is =
               λ j. record {
                 from = from-is j;
@@ -124,7 +135,8 @@ module _ {A : Type 0} {same : A → A → Bool} {T : ℕ} {reached : Schedule �
   pub entries-by-queue : (N n : ℕ) → N ≤ n → take (suc N) (entries same T reached n) ≡ take (suc N) (table N)
   unfolding entries
   entries-by-queue N n le =
-      take-of-map (entryOf same reached vs) (suc N) vs ∙ ap (map (entryOf same reached vs)) (same-first-visits laws N n le)
+      take-of-map (entryOf same reached vs) (suc N) vs
+      ∙ ap (map (entryOf same reached vs)) (same-first-visits laws N n le)
       ∙ sym (take-of-map (entryOf same reached vs) (suc N) (map visitOf (table N)))
       ∙ ap (take (suc N)) (map-map (entryOf same reached vs) visitOf (table N)
       ∙ map-unchanged (λ x. entryOf same reached vs (visitOf x)) (table N) (as-numbered N n le))
@@ -133,5 +145,6 @@ module _ {A : Type 0} {same : A → A → Bool} {T : ℕ} {reached : Schedule �
       vs = numbered n
 
   -- Theorem: longer schedules change nothing.
-  pub longer-schedules-change-nothing : (N n : ℕ) → N ≤ n → take (suc N) (entries same T reached n) ≡ take (suc N) (entries same T reached N)
+  pub longer-schedules-change-nothing : (N n : ℕ) → N ≤ n
+      → take (suc N) (entries same T reached n) ≡ take (suc N) (entries same T reached N)
   longer-schedules-change-nothing N n le = entries-by-queue N n le ∙ sym (entries-by-queue N N (omega arith))

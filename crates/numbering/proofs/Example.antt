@@ -1,4 +1,5 @@
--- The definitions and the queue computed: a counter modulo m, to which thread 0 adds one and which thread 1 doubles unless it is 0.
+-- The definitions and the queue computed: a counter modulo m, to which thread 0 adds one and which thread 1 doubles
+-- unless it is 0.
 use Prim.Native.Nat.{ℕ, zero, suc, _+_, _*_, _%_, _≤_, _<_}
 use native.Mathlib.Omega.{arith}
 use mathlib.Core.Path.{_≡_, refl, sym, ap, _∙_, subst}
@@ -8,7 +9,8 @@ use mathlib.Core.Option.{Option, none, some, Option·map, Option·elim, bind}
 use lib.ListN.{length, getElem?}
 use lib.Dec.{T as Holds, eqb, eqb→eq, eqb-refl}
 use Rattle.numbering.specs.Schedule.{Schedule, threadsFrom, ofLength, upTo, after, situationAfter}
-use Rattle.numbering.specs.Numbering.{Entry, extend, known, keepUnless, number, visits, firsts, byOf, fromOf, entryOf, entries}
+use Rattle.numbering.specs.Numbering.{Entry, extend, known, keepUnless, number, visits, firsts, byOf, fromOf}
+use Rattle.numbering.specs.Numbering.{entryOf, entries}
 use Rattle.numbering.specs.Verdict.{Verdict, Outcome, found, full, closed, judged, cut, verdict}
 use Rattle.numbering.specs.Queue.{first, child, childrenBy, childrenAt, queue, Steps}
 use Rattle.numbering.proofs.Verdicts.{entryEnds, verdict-by-queue}
@@ -29,7 +31,8 @@ reached m = situationAfter (count m) 0 (λ a. a)
 counted : (m : ℕ) → Steps eqb 2 (reached m) 0 (count m)
 unfolding reached count
 counted m =
-    steps-of-simulation eqb 2 0 (count m) (λ a. a) (count m) (λ a b h. eqb→eq a b (subst Holds (sym h) tt)) (λ a. passes (eqb a a) (eqb-refl a))
+    steps-of-simulation eqb 2 0 (count m) (λ a. a) (count m) (λ a b h. eqb→eq a b (subst Holds (sym h) tt))
+    (λ a. passes (eqb a a) (eqb-refl a))
     (λ s. Unit {0}) tt (λ t s u g h. tt) (λ t s lt g. map-nothing (count m t s)) no-thread
   where
     passes : (b : Bool) → Holds b → b ≡ true
@@ -56,7 +59,8 @@ entries-of-three = refl
 
 -- The verdict for N places, by the theorem and the queue: 2^101 - 1 schedules stand behind the last one.
 answer : (m k N : ℕ) → Verdict (Entry ℕ) ℕ
-unfolding cut judged queue first childrenAt childrenBy child threadsFrom known extend keepUnless count filterMap Option·elim ends-at
+unfolding cut judged queue first childrenAt childrenBy child threadsFrom known extend keepUnless count filterMap
+    Option·elim ends-at
 answer m k N = cut (entryEnds (ends-at k)) N (queue eqb 2 0 (count m) N)
 
 as-answered : (m k N : ℕ) → verdict eqb 2 (reached m) (ends-at k) N ≡ answer m k N
@@ -68,7 +72,8 @@ found-in-three : verdict eqb 2 (reached 3) (ends-at 1) 3
 unfolding answer entry
 found-in-three = as-answered 3 1 3
 
-full-with-two : verdict eqb 2 (reached 3) (ends-at 2) 2 ≡ record { places = entry 0 0 [] 0 ∷ entry 1 1 (0 ∷ []) 1 ∷ []; outcome = full }
+full-with-two : verdict eqb 2 (reached 3) (ends-at 2) 2
+    ≡ record { places = entry 0 0 [] 0 ∷ entry 1 1 (0 ∷ []) 1 ∷ []; outcome = full }
 unfolding answer entry
 full-with-two = as-answered 3 2 2
 

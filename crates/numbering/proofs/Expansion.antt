@@ -1,4 +1,5 @@
--- The queue's table, without where each place was reached from: the start and what is new among the kids of its own first places.
+-- The queue's table, without where each place was reached from: the start and what is new among the kids of its own
+-- first places.
 use Prim.Native.Nat.{ℕ, zero, suc, _≤_}
 use native.Mathlib.Omega.{arith}
 use mathlib.Core.Path.{_≡_, refl, sym, ap, _∙_, fun-ext}
@@ -51,7 +52,8 @@ module _ {A : Type 0} (same : A → A → Bool) (T : ℕ) (start : A) (step : �
   expanded-one-more l v =
       sym (extend-append same keyOf (visit [] start ∷ []) (flatMap (kids T step) l) (kids T step v))
       ∙ ap (extend same keyOf (visit [] start ∷ []))
-      (ap (λ m. flatMap (kids T step) l ++ m) (sym (pieces-of-one (kids T step) v)) ∙ sym (pieces-of-append (kids T step) l (v ∷ [])))
+      (ap (λ m. flatMap (kids T step) l ++ m) (sym (pieces-of-one (kids T step) v))
+      ∙ sym (pieces-of-append (kids T step) l (v ∷ [])))
 
   -- The table is the start and then what is new among the kids of its own first i places.
   pub visited-by-expansion : (i : ℕ) → visited i ≡ grown (map visitOf (take i (table i)))

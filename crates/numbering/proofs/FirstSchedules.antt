@@ -1,32 +1,38 @@
--- Each situation stands in the numbering with its first schedule, and the first place that passes a test is the place of the first
--- schedule that passes it.
+-- Each situation stands in the numbering with its first schedule, and the first place that passes a test is the place
+-- of the first schedule that passes it.
 use Prim.Native.Nat.{ℕ, zero, suc, _+_, _≤_, _<_}
 use native.Mathlib.Omega.{arith}
 use mathlib.Core.Path.{_≡_, refl, sym, ap, _∙_, subst}
 use mathlib.Core.Logic.{_⊎_, inl, inr, ⊎-elim}
 use mathlib.Core.Bool.{Bool, true, false}
 use mathlib.Core.List.{List, [], _∷_, _++_, map, IsPrefix}
-use mathlib.Core.List.{List·Memᴰ as Member, List·Memᴰ·head, List·Memᴰ·cases-cons, List·Memᴰ·append-cases, Memᴰ·append-right}
+use mathlib.Core.List.{List·Memᴰ as Member, List·Memᴰ·head, List·Memᴰ·cases-cons, List·Memᴰ·append-cases}
+use mathlib.Core.List.{Memᴰ·append-right}
 use mathlib.Core.Option.{Option, none, some}
 use lib.ListN.{length, take, getElem?}
 use Rattle.numbering.specs.Schedule.{Schedule, Earlier}
 use Rattle.numbering.specs.Numbering.{Visit, Entry, known, extend, visits, firsts, FirstSchedule}
 use Rattle.numbering.specs.Queue.{Steps}
-use Rattle.numbering.proofs.Lists.{nothing-there, place-in-range, place-behind-front, place-of-member, taken-from-front}
-use Rattle.numbering.proofs.Extend.{Known, Added, old-or-added, not-both, member-is-known, offered-is-known, known-member}
+use Rattle.numbering.proofs.Lists.{nothing-there, place-in-range, place-behind-front, place-of-member}
+use Rattle.numbering.proofs.Lists.{taken-from-front}
+use Rattle.numbering.proofs.Extend.{Known, Added, old-or-added, not-both, member-is-known, offered-is-known}
+use Rattle.numbering.proofs.Extend.{known-member}
 use Rattle.numbering.proofs.Schedules.{Ascending, later-in-order, not-earlier-both-ways}
 use Rattle.numbering.proofs.Visits.{visit, visit-is-run, run-is-visit, visits-in-order}
 use Rattle.numbering.proofs.Firsts.{keyOf, firsts-front}
 
-module _ {A : Type 0} {same : A → A → Bool} {T : ℕ} {reached : Schedule → Option A} {start : A} {step : ℕ → A → Option A}
+module _ {A : Type 0} {same : A → A → Bool} {T : ℕ} {reached : Schedule → Option A} {start : A}
+    {step : ℕ → A → Option A}
     (laws : Steps same T reached start step) where
   abbrev numbered : ℕ → List (Visit A)
   numbered n = firsts same T reached n
 
   -- A first visit among all visits.
-  first-visit-added : (n k : ℕ) (v : Visit A) → getElem? (numbered n) k ≡ some v → Added same keyOf [] (visits T reached n) k v
+  first-visit-added : (n k : ℕ) (v : Visit A) → getElem? (numbered n) k ≡ some v
+      → Added same keyOf [] (visits T reached n) k v
   unfolding firsts
-  first-visit-added n k v h = ⊎-elim (λ e. absurd (nothing-there e)) (λ r. r) (old-or-added same keyOf [] (visits T reached n) k h)
+  first-visit-added n k v h =
+      ⊎-elim (λ e. absurd (nothing-there e)) (λ r. r) (old-or-added same keyOf [] (visits T reached n) k h)
 
   -- Theorem: no schedule that passes a test is earlier than the first place that passes it.
   pub first-passing : (n k : ℕ) (v : Visit A) → getElem? (numbered n) k ≡ some v → (P : A → Type 0)
@@ -55,7 +61,8 @@ module _ {A : Type 0} {same : A → A → Bool} {T : ℕ} {reached : Schedule �
 
       before : Member (visit s b) (r .before) → (s ≡ v .path) ⊎ Earlier (v .path) s
       before l =
-          let c = subst (Known same keyOf b) same-front (offered-is-known same keyOf (laws .same-self) [] (r .before) l) in
+          let c = subst (Known same keyOf b) same-front
+          (offered-is-known same keyOf (laws .same-self) [] (r .before) l) in
           let w = known-member same keyOf (laws .same-means) b (take k (numbered n)) c in
           absurd (none-before (w .0) (w .1) (subst P (w .2) p))
 
@@ -68,11 +75,13 @@ module _ {A : Type 0} {same : A → A → Bool} {T : ℕ} {reached : Schedule �
       here l = ⊎-elim (λ e. inl (ap (λ x. x .path) e)) (λ l′. inr (after l′)) (List·Memᴰ·cases-cons l)
 
   -- Theorem: each place has the first schedule that reaches its situation.
-  pub place-has-first-schedule : (n k : ℕ) (v : Visit A) → getElem? (numbered n) k ≡ some v → FirstSchedule reached (v .path) (v .key)
+  pub place-has-first-schedule : (n k : ℕ) (v : Visit A) → getElem? (numbered n) k ≡ some v
+      → FirstSchedule reached (v .path) (v .key)
   unfolding firsts
   place-has-first-schedule n k v h =
       record {
-        reaches = visit-is-run laws n (subst (Member v) (sym (r .split)) (Memᴰ·append-right (r .before) (List·Memᴰ·head refl)));
+        reaches = visit-is-run laws n
+            (subst (Member v) (sym (r .split)) (Memᴰ·append-right (r .before) (List·Memᴰ·head refl)));
         earliest = λ s run. first-passing n k v h (λ b. b ≡ v .key) differs s (v .key) run refl;
       }
     where
@@ -85,9 +94,11 @@ module _ {A : Type 0} {same : A → A → Bool} {T : ℕ} {reached : Schedule �
           (member-is-known same keyOf (laws .same-self) (take k (numbered n)) l)) (r .fresh)
 
   -- Every situation that a schedule of at most n threads reaches is among the first visits up to n.
-  pub every-situation-numbered : (n : ℕ) (s : Schedule) (a : A) → reached s ≡ some a → length s ≤ n → Known same keyOf a (numbered n)
+  pub every-situation-numbered : (n : ℕ) (s : Schedule) (a : A) → reached s ≡ some a → length s ≤ n
+      → Known same keyOf a (numbered n)
   unfolding firsts
-  every-situation-numbered n s a run le = offered-is-known same keyOf (laws .same-self) [] (visits T reached n) (run-is-visit laws n s a run le)
+  every-situation-numbered n s a run le =
+      offered-is-known same keyOf (laws .same-self) [] (visits T reached n) (run-is-visit laws n s a run le)
 
   -- A first schedule stands in the numbering.
   pub first-schedule-placed : (s : Schedule) (a : A) → FirstSchedule reached s a → (n : ℕ) → length s ≤ n

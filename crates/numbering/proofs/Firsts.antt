@@ -1,4 +1,5 @@
--- The first visits step by step: those of at most n + 1 threads are the start and then what is new among the kids of those of at most n.
+-- The first visits step by step: those of at most n + 1 threads are the start and then what is new among the kids of
+-- those of at most n.
 use Prim.Native.Nat.{ℕ, zero, suc, _≤_, _<_}
 use native.Mathlib.Omega.{arith}
 use native.Mathlib.Decide.{le-ind}
@@ -12,8 +13,10 @@ use Rattle.numbering.specs.Schedule.{Schedule, threads, ofLength, upTo}
 use Rattle.numbering.specs.Numbering.{Visit, visits, known, extend, firsts}
 use Rattle.numbering.specs.Queue.{Steps}
 use Rattle.numbering.proofs.Lists.{front-of-itself, front-of-front, front-of-pieces, kept-from, kept-of}
-use Rattle.numbering.proofs.Extend.{Known, known-in-append, known-member, known-stays, extend-done, extend-from-nothing, extend-append}
-use Rattle.numbering.proofs.Extend.{extend-front, extend-front-grows, nothing-new, offered-is-known, news, news-none, news-known, news-new, extend-adds-news}
+use Rattle.numbering.proofs.Extend.{Known, known-in-append, known-member, known-stays, extend-done}
+use Rattle.numbering.proofs.Extend.{extend-from-nothing, extend-append}
+use Rattle.numbering.proofs.Extend.{extend-front, extend-front-grows, nothing-new, offered-is-known, news}
+use Rattle.numbering.proofs.Extend.{news-none, news-known, news-new, extend-adds-news}
 use Rattle.numbering.proofs.Schedules.{thread-in-range, thread-listed}
 use Rattle.numbering.proofs.Visits.{visit, visitBy, kids, visits-of-no-thread, visits-step-by-step}
 
@@ -40,10 +43,12 @@ module _ {A : Type 0} (same : A → A → Bool) (T : ℕ) (start : A) (step : �
         longer = ap (λ z. z .path) (sym (q .2));
       }
 
-  pub step-gives-kid : (v : Visit A) (t : ℕ) → t < T → (b : A) → step t (v .key) ≡ some b → Member (visit (v .path ++ t ∷ []) b) (kids T step v)
+  pub step-gives-kid : (v : Visit A) (t : ℕ) → t < T → (b : A) → step t (v .key) ≡ some b
+      → Member (visit (v .path ++ t ∷ []) b) (kids T step v)
   unfolding kids
   step-gives-kid v t lt b h =
-      kept-of (λ u. Option·map (visit (v .path ++ u ∷ [])) (step u (v .key))) (threads T) (thread-listed 0 T t (omega arith) (omega arith))
+      kept-of (λ u. Option·map (visit (v .path ++ u ∷ [])) (step u (v .key))) (threads T)
+      (thread-listed 0 T t (omega arith) (omega arith))
       (ap (Option·map (visit (v .path ++ t ∷ []))) h)
 
   -- Every step from the situation a leads to one that the list has.
@@ -56,9 +61,11 @@ module _ {A : Type 0} (same : A → A → Bool) (T : ℕ) (start : A) (step : �
 
   pub expanded-front : (l m : List (Visit A)) → IsPrefix l m → IsPrefix (expanded l) (expanded m)
   expanded-front l m p =
-      extend-front-grows same keyOf (visit [] start ∷ []) (flatMap (kids T step) l) (flatMap (kids T step) m) (front-of-pieces (kids T step) l m p)
+      extend-front-grows same keyOf (visit [] start ∷ []) (flatMap (kids T step) l) (flatMap (kids T step) m)
+      (front-of-pieces (kids T step) l m p)
 
-module _ {A : Type 0} {same : A → A → Bool} {T : ℕ} {reached : Schedule → Option A} {start : A} {step : ℕ → A → Option A}
+module _ {A : Type 0} {same : A → A → Bool} {T : ℕ} {reached : Schedule → Option A} {start : A}
+    {step : ℕ → A → Option A}
     (laws : Steps same T reached start step) where
   abbrev joined : List (Visit A) → List (Visit A) → List (Visit A)
   joined l vs = extend same keyOf l vs
@@ -77,10 +84,12 @@ module _ {A : Type 0} {same : A → A → Bool} {T : ℕ} {reached : Schedule �
 
   no-new-kid : (l : List (Visit A)) (v : Visit A) → StepsKnown l (v .key) → joined l (kids-of v) ≡ l
   no-new-kid l v h =
-      nothing-new same keyOf l (kids-of v) (λ w m. let r = kid-by-step same T start step v w m in h (r .thread) (r .there) (w .key) (r .made))
+      nothing-new same keyOf l (kids-of v)
+      (λ w m. let r = kid-by-step same T start step v w m in h (r .thread) (r .there) (w .key) (r .made))
 
   pub kids-offered : (l : List (Visit A)) (v : Visit A) → StepsKnown (joined l (kids-of v)) (v .key)
-  kids-offered l v t lt b h = offered-is-known same keyOf (laws .same-self) l (kids-of v) (step-gives-kid same T start step v t lt b h)
+  kids-offered l v t lt b h =
+      offered-is-known same keyOf (laws .same-self) l (kids-of v) (step-gives-kid same T start step v t lt b h)
 
   -- The kids of a visit whose situation an earlier visit has are known.
   kids-of-news : (l seen vs : List (Visit A)) → ((a : A) → Known same keyOf a seen → StepsKnown l a)
@@ -137,8 +146,11 @@ module _ {A : Type 0} {same : A → A → Bool} {T : ℕ} {reached : Schedule �
   firsts-grow : (n : ℕ) → IsPrefix (numbered n) (numbered (suc n))
   unfolding firsts visits upTo
   firsts-grow n =
-      extend-front-grows same keyOf [] (visits T reached n) (visits T reached (suc n))
-      (filterMap (visitBy reached) (ofLength T (suc n)), sym (filterMap-append (visitBy reached) (upTo T n) (ofLength T (suc n))))
+      extend-front-grows same keyOf [] (visits T reached n) (visits T reached (suc n)) (
+        filterMap (visitBy reached) (ofLength T (suc n)),
+        sym
+            (filterMap-append (visitBy reached) (upTo T n) (ofLength T (suc n))),
+      )
 
   pub firsts-front : (n m : ℕ) → n ≤ m → IsPrefix (numbered n) (numbered m)
   firsts-front n m le =

@@ -1,5 +1,5 @@
--- The same search over another type of situations, such as their bytes: if f tells the good situations apart and the steps agree, the table
--- is that of the images.
+-- The same search over another type of situations, such as their bytes: if f tells the good situations apart and the
+-- steps agree, the table is that of the images.
 use Prim.Native.Nat.{ℕ, zero, suc, _<_}
 use native.Mathlib.Omega.{arith}
 use mathlib.Core.Path.{_≡_, refl, sym, ap, ap₂, _∙_, subst}
@@ -32,13 +32,15 @@ module _ {X Y E : Type 0} (h : X → Y) where
   unfoldable pub verdictImage : Verdict X E → Verdict Y E
   verdictImage v = record { places = map h (v .places); outcome = outcomeImage (v .outcome) }
 
-  pub cut-of-images : (ending : X → Option E) (ending′ : Y → Option E) (n : ℕ) (l : List X) → ((x : X) → Member x l → ending′ (h x) ≡ ending x)
+  pub cut-of-images : (ending : X → Option E) (ending′ : Y → Option E) (n : ℕ) (l : List X)
+      → ((x : X) → Member x l → ending′ (h x) ≡ ending x)
       → cut ending′ n (map h l) ≡ verdictImage (cut ending n l)
   unfolding cut judged verdictImage outcomeImage
   cut-of-images ending ending′ n [] alike = refl
   cut-of-images ending ending′ zero (x ∷ l) alike = refl
   cut-of-images ending ending′ (suc n) (x ∷ l) alike =
-      ap₂ (judged (h x)) (alike x (List·Memᴰ·head refl)) (cut-of-images ending ending′ n l (λ y m. alike y (List·Memᴰ·tail m))) ∙ go (ending x)
+      ap₂ (judged (h x)) (alike x (List·Memᴰ·head refl))
+      (cut-of-images ending ending′ n l (λ y m. alike y (List·Memᴰ·tail m))) ∙ go (ending x)
     where
       go : (o : Option E) → judged (h x) o (verdictImage (cut ending n l)) ≡ verdictImage (judged x o (cut ending n l))
       go none = refl
@@ -49,7 +51,8 @@ place-of-image h [] i = refl
 place-of-image h (x ∷ l) zero = refl
 place-of-image h (x ∷ l) (suc i) = place-of-image h l i
 
-module _ {A B : Type 0} (same : A → A → Bool) (same′ : B → B → Bool) (T : ℕ) (start : A) (step : ℕ → A → Option A) (step′ : ℕ → B → Option B)
+module _ {A B : Type 0} (same : A → A → Bool) (same′ : B → B → Bool) (T : ℕ) (start : A) (step : ℕ → A → Option A)
+    (step′ : ℕ → B → Option B)
     (f : A → B) (Good : A → Type 0) (good-start : Good start)
     (good-step : (t : ℕ) (a b : A) → t < T → Good a → step t a ≡ some b → Good b)
     (alike : (a b : A) → Good a → Good b → same′ (f a) (f b) ≡ same a b)
@@ -58,20 +61,23 @@ module _ {A B : Type 0} (same : A → A → Bool) (same′ : B → B → Bool) (
   unfolding first
   entries-are-good N x m =
       let p = place-of-member (queue same T start step N) m in
-      along-parents T start step (queue same T start step N) (queue-rooted same T start step N) (λ k y. Good (y .key)) good-start
+      along-parents T start step (queue same T start step N) (queue-rooted same T start step N)
+      (λ k y. Good (y .key)) good-start
       (λ k y r g. good-step (r .thread) (r .parent .key) (y .key) (r .is-thread) g (r .made)) (p .0) x (p .1)
 
   images-of-children : (i : ℕ) (x : Entry A) → Good (x .key)
       → childrenBy step′ i (imageOf f x) (threads T) ≡ map (imageOf f) (childrenBy step i x (threads T))
   unfolding childrenBy child
   images-of-children i x g =
-      kept-alike (child step′ i (imageOf f x)) (λ t. Option·map (imageOf f) (child step i x t)) (threads T) (λ t m. each t (omega (arith, thread-in-range 0 T m)))
+      kept-alike (child step′ i (imageOf f x)) (λ t. Option·map (imageOf f) (child step i x t)) (threads T)
+      (λ t m. each t (omega (arith, thread-in-range 0 T m)))
       ∙ sym (map-filterMap (child step i x) (imageOf f) (threads T))
     where
       each : (t : ℕ) → t < T → child step′ i (imageOf f x) t ≡ Option·map (imageOf f) (child step i x t)
       each t lt =
           ap (Option·map (childTo i (imageOf f x) t)) (steps t (x .key) lt g)
-          ∙ map-twice (childTo i (imageOf f x) t) f (step t (x .key)) ∙ sym (map-twice (imageOf f) (childTo i x t) (step t (x .key)))
+          ∙ map-twice (childTo i (imageOf f x) t) f (step t (x .key))
+          ∙ sym (map-twice (imageOf f) (childTo i x t) (step t (x .key)))
 
   images-to-add : (i : ℕ) (o : Option (Entry A)) → ((x : Entry A) → o ≡ some x → Good (x .key))
       → childrenAt step′ T i (Option·map (imageOf f) o) ≡ map (imageOf f) (childrenAt step T i o)
@@ -94,7 +100,9 @@ module _ {A B : Type 0} (same : A → A → Bool) (same′ : B → B → Bool) (
       ap₂ (λ q o. extend same′ entryKey q (childrenAt step′ T i o)) (queue-of-images i)
       (ap (λ q. getElem? q i) (queue-of-images i) ∙ place-of-image (imageOf f) q i)
       ∙ ap (extend same′ entryKey (map (imageOf f) q)) (images-to-add i (getElem? q i) good-there)
-      ∙ sym (extend-image same same′ entryKey entryKey f (imageOf f) (λ x. refl) Good alike q (childrenAt step T i (getElem? q i)) (entries-are-good i)
+      ∙ sym
+      (extend-image same same′ entryKey entryKey f (imageOf f) (λ x. refl) Good alike q
+      (childrenAt step T i (getElem? q i)) (entries-are-good i)
       (good-to-add i (getElem? q i) good-there))
     where
       q : List (Entry A)

@@ -1,4 +1,5 @@
--- The queue's table, without where each place was reached from, is the list of first visits: the first i + 1 agree for every i.
+-- The queue's table, without where each place was reached from, is the list of first visits: the first i + 1 agree for
+-- every i.
 use Prim.Native.Nat.{ℕ, zero, suc, _≤_, _<_}
 use native.Mathlib.Omega.{arith}
 use native.Mathlib.Decide.{decLt}
@@ -11,7 +12,8 @@ use lib.Seq.{take-all}
 use Rattle.numbering.specs.Schedule.{Schedule}
 use Rattle.numbering.specs.Numbering.{Visit, Entry, firsts}
 use Rattle.numbering.specs.Queue.{first, queue, Steps}
-use Rattle.numbering.proofs.Lists.{front-of-equal, front-of-front, fronts-of-each-other, front-taken, front-of-map}
+use Rattle.numbering.proofs.Lists.{front-of-equal, front-of-front, fronts-of-each-other, front-taken}
+use Rattle.numbering.proofs.Lists.{front-of-map}
 use Rattle.numbering.proofs.Lists.{taken-from-front}
 use Rattle.numbering.proofs.Extend.{extend-front}
 use Rattle.numbering.proofs.Visits.{visit, kids}
@@ -20,7 +22,8 @@ use Rattle.numbering.proofs.Firsts.{firsts-front}
 use Rattle.numbering.proofs.Turns.{front-settled}
 use Rattle.numbering.proofs.Expansion.{visitOf, visited-by-expansion}
 
-module _ {A : Type 0} {same : A → A → Bool} {T : ℕ} {reached : Schedule → Option A} {start : A} {step : ℕ → A → Option A}
+module _ {A : Type 0} {same : A → A → Bool} {T : ℕ} {reached : Schedule → Option A} {start : A}
+    {step : ℕ → A → Option A}
     (laws : Steps same T reached start step) where
   abbrev table : ℕ → List (Entry A)
   table i = queue same T start step i
@@ -39,7 +42,8 @@ module _ {A : Type 0} {same : A → A → Bool} {T : ℕ} {reached : Schedule �
   visited-in-firsts zero = front-of-equal (visit [] start ∷ []) (numbered zero) (sym (firsts-of-no-thread laws))
   visited-in-firsts (suc i) =
       subst₂ IsPrefix
-      (ap (λ m. grown (map visitOf m)) (sym (front-settled same T start step i)) ∙ sym (visited-by-expansion same T start step (suc i)))
+      (ap (λ m. grown (map visitOf m)) (sym (front-settled same T start step i))
+      ∙ sym (visited-by-expansion same T start step (suc i)))
       (sym (firsts-step-by-step laws i))
       (expanded-front same T start step (map visitOf settled) (numbered i)
       (front-of-front (map visitOf settled) (visited i) (numbered i)

@@ -10,7 +10,8 @@ use lib.ListN.{length, take, getElem?, length-append}
 use Rattle.numbering.specs.Schedule.{Schedule}
 use Rattle.numbering.specs.Numbering.{Visit, Entry, byOf, firsts, entries, FirstSchedule}
 use Rattle.numbering.specs.Queue.{first, queue, Steps}
-use Rattle.numbering.proofs.Lists.{front-taken, place-behind-front, place-in-front, place-of-front, place-in-map, place-of-map}
+use Rattle.numbering.proofs.Lists.{front-taken, place-behind-front, place-in-front, place-of-front, place-in-map}
+use Rattle.numbering.proofs.Lists.{place-of-map}
 use Rattle.numbering.proofs.Visits.{visit}
 use Rattle.numbering.proofs.Firsts.{firsts-front}
 use Rattle.numbering.proofs.FirstSchedules.{place-has-first-schedule, first-schedule-placed}
@@ -19,7 +20,8 @@ use Rattle.numbering.proofs.Numbered.{table-in-firsts, same-first-visit
 use Rattle.numbering.proofs.Origins.{Parent, Rooted, rooted-front, queue-rooted}
 use Rattle.numbering.proofs.Entries.{by-last-thread, without-last-thread, entries-by-queue}
 
-module _ {A : Type 0} {same : A → A → Bool} {T : ℕ} {reached : Schedule → Option A} {start : A} {step : ℕ → A → Option A}
+module _ {A : Type 0} {same : A → A → Bool} {T : ℕ} {reached : Schedule → Option A} {start : A}
+    {step : ℕ → A → Option A}
     (laws : Steps same T reached start step) where
   abbrev table : ℕ → List (Entry A)
   table i = queue same T start step i
@@ -30,7 +32,8 @@ module _ {A : Type 0} {same : A → A → Bool} {T : ℕ} {reached : Schedule �
   -- A place among the first visits is that place of the queue, once as many places are expanded.
   pub place-in-queue : (n k : ℕ) (v : Visit A) → getElem? (numbered n) k ≡ some v
       → (x : Entry A) × (getElem? (table (n + k)) k ≡ some x) × (visitOf x ≡ v)
-  place-in-queue n k v h = place-in-map visitOf (table N) k (place-of-front (suc N) (map visitOf (table N)) k in-front .1)
+  place-in-queue n k v h =
+      place-in-map visitOf (table N) k (place-of-front (suc N) (map visitOf (table N)) k in-front .1)
     where
       N : ℕ
       N = n + k
@@ -43,14 +46,16 @@ module _ {A : Type 0} {same : A → A → Bool} {T : ℕ} {reached : Schedule �
           subst (λ l. getElem? l k ≡ some v) (same-first-visits laws N N (omega arith))
           (place-in-front (suc N) (numbered N) k (omega arith) in-firsts)
 
-  pub queue-has-first-schedules : (i k : ℕ) (x : Entry A) → getElem? (table i) k ≡ some x → FirstSchedule reached (x .path) (x .key)
+  pub queue-has-first-schedules : (i k : ℕ) (x : Entry A) → getElem? (table i) k ≡ some x
+      → FirstSchedule reached (x .path) (x .key)
   queue-has-first-schedules i k x h =
       place-has-first-schedule laws i k (visitOf x)
       (place-behind-front (map visitOf (table i)) (numbered i) (table-in-firsts laws i i (omega arith)) k
       (place-of-map visitOf (table i) k h))
 
   -- Theorem: the prefix of a first schedule is the first schedule of its own situation.
-  pub prefix-of-first-schedule : (s : Schedule) (t : ℕ) (b : A) → FirstSchedule reached (s ++ t ∷ []) b → (a : A) × FirstSchedule reached s a × (step t a ≡ some b)
+  pub prefix-of-first-schedule : (s : Schedule) (t : ℕ) (b : A) → FirstSchedule reached (s ++ t ∷ []) b
+      → (a : A) × FirstSchedule reached s a × (step t a ≡ some b)
   unfolding first
   prefix-of-first-schedule s t b f = ⊎-elim root child (queue-rooted same T start step N k x (w .1))
     where
@@ -73,16 +78,23 @@ module _ {A : Type 0} {same : A → A → Bool} {T : ℕ} {reached : Schedule �
       x = w .0
 
       root : (k ≡ 0) × (x ≡ first start) → (a : A) × FirstSchedule reached s a × (step t a ≡ some b)
-      root e = absurd (let l : 0 ≡ length (s ++ t ∷ []) = ap (λ z. length (z .path)) (sym (e .1)) ∙ ap (λ v. length (v .path)) (w .2) in
+      root e =
+          absurd
+          (let l : 0 ≡ length (s ++ t ∷ []) = ap (λ z. length (z .path)) (sym (e .1))
+          ∙ ap (λ v. length (v .path)) (w .2) in
           omega (arith, length-append s (t ∷ [])))
 
       child : Parent T start step (table N) k x → (a : A) × FirstSchedule reached s a × (step t a ≡ some b)
       child r =
-          let e : r .parent .path ++ r .thread ∷ [] ≡ s ++ t ∷ [] = ap (λ z. z .path) (sym (r .child-is)) ∙ ap (λ v. v .path) (w .2) in
-          let path-is : r .parent .path ≡ s = sym (without-last-thread (r .parent .path) (r .thread)) ∙ ap dropLast e ∙ without-last-thread s t in
-          let thread-is : suc (r .thread) ≡ suc t = sym (by-last-thread (r .parent .path) (r .thread)) ∙ ap byOf e ∙ by-last-thread s t in (
+          let e : r .parent .path ++ r .thread ∷ [] ≡ s ++ t ∷ [] = ap (λ z. z .path) (sym (r .child-is)) ∙ ap
+          (λ v. v .path) (w .2) in
+          let path-is : r .parent .path ≡ s = sym (without-last-thread (r .parent .path) (r .thread)) ∙ ap dropLast e
+          ∙ without-last-thread s t in
+          let thread-is : suc (r .thread) ≡ suc t = sym (by-last-thread (r .parent .path) (r .thread)) ∙ ap byOf e
+          ∙ by-last-thread s t in (
             r .parent .key,
-            subst (λ z. FirstSchedule reached z (r .parent .key)) path-is (queue-has-first-schedules N (r .index) (r .parent) (r .there)),
+            subst (λ z. FirstSchedule reached z (r .parent .key)) path-is
+                (queue-has-first-schedules N (r .index) (r .parent) (r .there)),
             ap (λ u. step u (r .parent .key)) (omega arith) ∙ r .made ∙ ap (λ v. some (v .key)) (w .2),
           )
 

@@ -1,4 +1,5 @@
--- What holds of every table that starts with the first place and has children of earlier places after it, so of the queue and its fronts.
+-- What holds of every table that starts with the first place and has children of earlier places after it, so of the
+-- queue and its fronts.
 use Prim.Native.Nat.{ℕ, zero, suc, _+_, _≤_, _<_}
 use native.Mathlib.Omega.{arith}
 use native.Mathlib.Decide.{decLt}
@@ -6,7 +7,8 @@ use mathlib.Core.Path.{_≡_, refl, sym, ap, _∙_, subst}
 use mathlib.Core.Logic.{_⊎_, inl, inr, ⊎-elim}
 use mathlib.Core.Bool.{Bool, true, false}
 use mathlib.Core.List.{List, [], _∷_, _++_, map, reverse, reverse-append, map-append, IsPrefix}
-use mathlib.Core.List.{List·Memᴰ as Member, List·Memᴰ·head, List·Memᴰ·cases-cons, List·Memᴰ·append-cases, Memᴰ·append-right}
+use mathlib.Core.List.{List·Memᴰ as Member, List·Memᴰ·head, List·Memᴰ·cases-cons, List·Memᴰ·append-cases}
+use mathlib.Core.List.{Memᴰ·append-right}
 use mathlib.Core.Option.{Option, none, some, Option·some-injective}
 use lib.ListN.{length, take, getElem?, length-append}
 use Rattle.numbering.specs.Schedule.{Schedule}
@@ -18,19 +20,22 @@ use Rattle.numbering.proofs.Extend.{Known, not-both, member-is-known}
 use Rattle.numbering.proofs.Turns.{entryKey, childTo}
 use Rattle.numbering.proofs.Origins.{Parent, Rooted, along-parents, placed}
 
-module _ {A : Type 0} (T : ℕ) (start : A) (step : ℕ → A → Option A) (q : List (Entry A)) (rooted : Rooted T start step q) where
+module _ {A : Type 0} (T : ℕ) (start : A) (step : ℕ → A → Option A) (q : List (Entry A))
+    (rooted : Rooted T start step q) where
   -- The path to place k has at most k - 1 steps.
   pub path-is-short : (k : ℕ) (x : Entry A) → getElem? q k ≡ some x → length (x .path) ≤ k
   unfolding first
   path-is-short =
       along-parents T start step q rooted (λ k x. length (x .path) ≤ k) (omega arith)
-      (λ k x p below. omega (arith, ap (λ z. length (z .path)) (p .child-is), length-append (p .parent .path) (p .thread ∷ []), p .earlier))
+      (λ k x p below. omega
+      (arith, ap (λ z. length (z .path)) (p .child-is), length-append (p .parent .path) (p .thread ∷ []), p .earlier))
 
   -- Going back from a place gives its path, the last thread first, the threads numbered from 1.
   pub goes-back : (k : ℕ) (x : Entry A) → getElem? q k ≡ some x → Back q k (reverse (map suc (x .path)))
   unfolding first
   goes-back k x h =
-      along-parents T start step q rooted (λ k x. getElem? q k ≡ some x → Back q k (reverse (map suc (x .path)))) (λ e. arrived (first start) e refl)
+      along-parents T start step q rooted (λ k x. getElem? q k ≡ some x → Back q k (reverse (map suc (x .path))))
+      (λ e. arrived (first start) e refl)
       one-further k x h h
     where
       reversed : (s : Schedule) (t : ℕ) → reverse (map suc (s ++ t ∷ [])) ≡ suc t ∷ reverse (map suc s)
@@ -40,8 +45,10 @@ module _ {A : Type 0} (T : ℕ) (start : A) (step : ℕ → A → Option A) (q :
           → (getElem? q (p .index) ≡ some (p .parent) → Back q (p .index) (reverse (map suc (p .parent .path))))
           → getElem? q k ≡ some x → Back q k (reverse (map suc (x .path)))
       one-further k x p below e =
-          subst (Back q k) (sym (reversed (p .parent .path) (p .thread)) ∙ ap (λ z. reverse (map suc (z .path))) (sym (p .child-is)))
-          (further x e (ap (λ z. z .from) (p .child-is)) (p .earlier) (ap (λ z. z .by) (p .child-is)) (below (p .there)))
+          subst (Back q k)
+          (sym (reversed (p .parent .path) (p .thread)) ∙ ap (λ z. reverse (map suc (z .path))) (sym (p .child-is)))
+          (further x e (ap (λ z. z .from) (p .child-is)) (p .earlier) (ap (λ z. z .by) (p .child-is))
+          (below (p .there)))
 
 -- What a step back finds.
 module _ {A : Type 0} (q : List (Entry A)) where
@@ -56,11 +63,17 @@ module _ {A : Type 0} (q : List (Entry A)) where
       → (rest : List ℕ) × (bs ≡ x .by ∷ rest) × (i < k) × Back q i rest
   back-further k bs x i h e (arrived y a z) = absurd (omega (arith, ap (λ z. z .from) (found-there k h a)))
   back-further k bs x i h e (further {i = j} {bs = rest} y a f lt b r) =
-      let same-place : j ≡ i = omega (arith, ap (λ z. z .from) (found-there k h a)) in
-      (rest, ap (λ c. c ∷ rest) (sym b ∙ ap (λ z. z .by) (sym (found-there k h a))), omega arith, subst (λ n. Back q n rest) same-place r)
+      let same-place : j ≡ i = omega (arith, ap (λ z. z .from) (found-there k h a)) in (
+        rest,
+        ap (λ c. c ∷ rest) (sym b ∙ ap (λ z. z .by) (sym (found-there k h a))),
+        omega arith,
+        subst
+            (λ n. Back q n rest) same-place r,
+      )
 
 -- No two places of the queue have one situation.
-module _ {A : Type 0} {same : A → A → Bool} {T : ℕ} {reached : Schedule → Option A} {start : A} {step : ℕ → A → Option A}
+module _ {A : Type 0} {same : A → A → Bool} {T : ℕ} {reached : Schedule → Option A} {start : A}
+    {step : ℕ → A → Option A}
     (laws : Steps same T reached start step) where
   abbrev table : ℕ → List (Entry A)
   table i = queue same T start step i
@@ -69,7 +82,8 @@ module _ {A : Type 0} {same : A → A → Bool} {T : ℕ} {reached : Schedule �
       → j < k → x .key ≡ y .key → ⊥
   later-differs n j k x y h e lt same-key =
       not-both (subst (λ a. Known same entryKey a front) same-key
-      (member-is-known same entryKey (laws .same-self) front (member-at-place front j (place-in-front k (table n) j lt h))))
+      (member-is-known same entryKey (laws .same-self) front
+      (member-at-place front j (place-in-front k (table n) j lt h))))
       (placed same T start step n k y e .fresh)
     where
       front : List (Entry A)
