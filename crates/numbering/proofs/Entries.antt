@@ -1,22 +1,21 @@
 -- The queue's entries are those of the numbering: the first N + 1 agree for every N, and looking at longer schedules
 -- changes nothing.
-use Prim.Native.Nat.{ℕ, zero, suc, _≤_, _<_}
+use Prim.Native.Nat.{ℕ, zero, suc, _≤_}
 use native.Mathlib.Omega.{arith}
 use mathlib.Core.Path.{_≡_, refl, sym, ap, _∙_, subst}
-use mathlib.Core.Logic.{_⊎_, inl, inr, ⊎-elim}
-use mathlib.Core.Bool.{Bool, true, false, _||_, cond}
+use mathlib.Core.Logic.{⊎-elim}
+use mathlib.Core.Bool.{Bool, true, false, cond}
 use mathlib.Core.List.{List, [], _∷_, _++_, map, dropLast, map-map, IsPrefix}
-use mathlib.Core.Option.{Option, none, some, Option·elim, bind, Option·some-injective}
-use lib.ListN.{length, take, getElem?, length-append, length-map}
+use mathlib.Core.Option.{Option, some, Option·elim, bind, Option·some-injective}
+use lib.ListN.{length, take, getElem?, length-map}
 use Rattle.numbering.specs.Schedule.{Schedule}
 use Rattle.numbering.specs.Numbering.{Visit, Entry, known, number, firsts, byOf, fromOf, entryOf, entries}
-use Rattle.numbering.specs.Queue.{first, queue, Steps}
+use Rattle.numbering.specs.Queue.{first, queue, Steps, childTo}
 use Rattle.numbering.proofs.Lists.{nothing-there, place-in-range, place-of-map, place-behind-front}
 use Rattle.numbering.proofs.Lists.{taken-from-front, take-of-map, map-unchanged}
 use Rattle.numbering.proofs.Extend.{neither-true, known-image}
-use Rattle.numbering.proofs.Visits.{visit}
 use Rattle.numbering.proofs.Firsts.{keyOf}
-use Rattle.numbering.proofs.Turns.{entryKey, childTo}
+use Rattle.numbering.proofs.Turns.{entryKey}
 use Rattle.numbering.proofs.Expansion.{visitOf}
 use Rattle.numbering.proofs.Numbered.{table-in-firsts, same-first-visits}
 use Rattle.numbering.proofs.Origins.{Parent, Rooted, along-parents, placed, queue-rooted}

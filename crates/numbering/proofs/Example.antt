@@ -1,19 +1,18 @@
 -- The definitions and the queue computed: a counter modulo m, to which thread 0 adds one and which thread 1 doubles
 -- unless it is 0.
-use Prim.Native.Nat.{ℕ, zero, suc, _+_, _*_, _%_, _≤_, _<_}
+use Prim.Native.Nat.{ℕ, zero, suc, _+_, _*_, _%_, _≤_}
 use native.Mathlib.Omega.{arith}
-use mathlib.Core.Path.{_≡_, refl, sym, ap, _∙_, subst}
-use mathlib.Core.Bool.{Bool, true, false, cond, _||_}
-use mathlib.Core.List.{List, [], _∷_, _++_, map, flatMap, filterMap, dropLast}
+use mathlib.Core.Path.{_≡_, refl, sym, ap, subst}
+use mathlib.Core.Bool.{Bool, true, false, cond}
+use mathlib.Core.List.{[], _∷_, flatMap, filterMap}
 use mathlib.Core.Option.{Option, none, some, Option·map, Option·elim, bind}
-use lib.ListN.{length, getElem?}
 use lib.Dec.{T as Holds, eqb, eqb→eq, eqb-refl}
 use Rattle.numbering.specs.Schedule.{Schedule, threadsFrom, ofLength, upTo, after, situationAfter}
 use Rattle.numbering.specs.Numbering.{Entry, extend, known, keepUnless, number, visits, firsts, byOf, fromOf}
 use Rattle.numbering.specs.Numbering.{entryOf, entries}
-use Rattle.numbering.specs.Verdict.{Verdict, Outcome, found, full, closed, judged, cut, verdict}
+use Rattle.numbering.specs.Verdict.{Verdict, found, full, closed, judged, cut, verdict, entryEnds}
 use Rattle.numbering.specs.Queue.{first, child, childrenBy, childrenAt, queue, Steps}
-use Rattle.numbering.proofs.Verdicts.{entryEnds, verdict-by-queue}
+use Rattle.numbering.proofs.Verdicts.{verdict-by-queue}
 use Rattle.numbering.proofs.Simulation.{steps-of-simulation}
 
 count : ℕ → ℕ → ℕ → Option ℕ

@@ -5,18 +5,17 @@ use native.Mathlib.Omega.{arith}
 use mathlib.Core.Path.{_≡_, refl, sym, ap, _∙_, fun-ext}
 use mathlib.Core.Bool.{Bool}
 use mathlib.Core.List.{List, [], _∷_, _++_, map, flatMap, filterMap, map-append, map-filterMap}
-use mathlib.Core.Option.{Option, none, some}
-use mathlib.Core.Option.{map-map as map-twice}
+use mathlib.Core.Option.{Option, none, some, map-map as map-twice}
 use lib.ListN.{length, take, getElem?}
 use lib.Seq.{take-all}
 use Rattle.numbering.specs.Schedule.{threads}
-use Rattle.numbering.specs.Numbering.{Visit, Entry, extend}
-use Rattle.numbering.specs.Queue.{first, child, childrenBy, queue}
+use Rattle.numbering.specs.Numbering.{Visit, Entry, extend, visit}
+use Rattle.numbering.specs.Queue.{first, child, childrenBy, queue, childTo}
 use Rattle.numbering.proofs.Lists.{one-more-in-front, place-empty, pieces-of-append, pieces-of-one}
 use Rattle.numbering.proofs.Extend.{extend-append, extend-image}
-use Rattle.numbering.proofs.Visits.{visit, kids}
+use Rattle.numbering.proofs.Visits.{kids}
 use Rattle.numbering.proofs.Firsts.{keyOf, expanded}
-use Rattle.numbering.proofs.Turns.{entryKey, childTo, queue-expands, queue-at-rest, front-settled}
+use Rattle.numbering.proofs.Turns.{entryKey, queue-expands, queue-at-rest, front-settled}
 
 -- The visit of an entry.
 abbrev pub visitOf : {A : Type 0} → Entry A → Visit A

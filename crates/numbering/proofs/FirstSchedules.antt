@@ -1,24 +1,23 @@
 -- Each situation stands in the numbering with its first schedule, and the first place that passes a test is the place
 -- of the first schedule that passes it.
-use Prim.Native.Nat.{ℕ, zero, suc, _+_, _≤_, _<_}
+use Prim.Native.Nat.{ℕ, _+_, _≤_}
 use native.Mathlib.Omega.{arith}
 use mathlib.Core.Path.{_≡_, refl, sym, ap, _∙_, subst}
 use mathlib.Core.Logic.{_⊎_, inl, inr, ⊎-elim}
-use mathlib.Core.Bool.{Bool, true, false}
-use mathlib.Core.List.{List, [], _∷_, _++_, map, IsPrefix}
-use mathlib.Core.List.{List·Memᴰ as Member, List·Memᴰ·head, List·Memᴰ·cases-cons, List·Memᴰ·append-cases}
-use mathlib.Core.List.{Memᴰ·append-right}
-use mathlib.Core.Option.{Option, none, some}
+use mathlib.Core.Bool.{Bool}
+use mathlib.Core.List.{List, [], _∷_, _++_, IsPrefix, List·Memᴰ as Member, List·Memᴰ·head, List·Memᴰ·cases-cons}
+use mathlib.Core.List.{List·Memᴰ·append-cases, Memᴰ·append-right}
+use mathlib.Core.Option.{Option, some}
 use lib.ListN.{length, take, getElem?}
 use Rattle.numbering.specs.Schedule.{Schedule, Earlier}
-use Rattle.numbering.specs.Numbering.{Visit, Entry, known, extend, visits, firsts, FirstSchedule}
+use Rattle.numbering.specs.Numbering.{Visit, extend, visits, firsts, FirstSchedule, visit}
 use Rattle.numbering.specs.Queue.{Steps}
 use Rattle.numbering.proofs.Lists.{nothing-there, place-in-range, place-behind-front, place-of-member}
 use Rattle.numbering.proofs.Lists.{taken-from-front}
 use Rattle.numbering.proofs.Extend.{Known, Added, old-or-added, not-both, member-is-known, offered-is-known}
 use Rattle.numbering.proofs.Extend.{known-member}
 use Rattle.numbering.proofs.Schedules.{Ascending, later-in-order, not-earlier-both-ways}
-use Rattle.numbering.proofs.Visits.{visit, visit-is-run, run-is-visit, visits-in-order}
+use Rattle.numbering.proofs.Visits.{visit-is-run, run-is-visit, visits-in-order}
 use Rattle.numbering.proofs.Firsts.{keyOf, firsts-front}
 
 module _ {A : Type 0} {same : A → A → Bool} {T : ℕ} {reached : Schedule → Option A} {start : A}

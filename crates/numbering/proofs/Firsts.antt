@@ -3,22 +3,21 @@
 use Prim.Native.Nat.{ℕ, zero, suc, _≤_, _<_}
 use native.Mathlib.Omega.{arith}
 use native.Mathlib.Decide.{le-ind}
-use mathlib.Core.Path.{_≡_, refl, sym, ap, ap₂, _∙_, subst}
-use mathlib.Core.Logic.{_⊎_, inl, inr, ⊎-elim}
+use mathlib.Core.Path.{_≡_, refl, sym, ap, _∙_, subst}
+use mathlib.Core.Logic.{⊎-elim}
 use mathlib.Core.Bool.{Bool, true, false}
-use mathlib.Core.List.{List, [], _∷_, _++_, flatMap, filterMap, filterMap-append, IsPrefix}
-use mathlib.Core.List.{List·Memᴰ as Member, List·Memᴰ·not-nil, List·Memᴰ·eq-of-singleton}
-use mathlib.Core.Option.{Option, none, some, Option·map, map-eq-some-iff}
+use mathlib.Core.List.{List, [], _∷_, _++_, flatMap, filterMap, filterMap-append, IsPrefix, List·Memᴰ as Member}
+use mathlib.Core.List.{List·Memᴰ·not-nil, List·Memᴰ·eq-of-singleton}
+use mathlib.Core.Option.{Option, some, Option·map, map-eq-some-iff}
 use Rattle.numbering.specs.Schedule.{Schedule, threads, ofLength, upTo}
-use Rattle.numbering.specs.Numbering.{Visit, visits, known, extend, firsts}
+use Rattle.numbering.specs.Numbering.{Visit, visits, known, extend, firsts, visit}
 use Rattle.numbering.specs.Queue.{Steps}
 use Rattle.numbering.proofs.Lists.{front-of-itself, front-of-front, front-of-pieces, kept-from, kept-of}
 use Rattle.numbering.proofs.Extend.{Known, known-in-append, known-member, known-stays, extend-done}
-use Rattle.numbering.proofs.Extend.{extend-from-nothing, extend-append}
-use Rattle.numbering.proofs.Extend.{extend-front, extend-front-grows, nothing-new, offered-is-known, news}
-use Rattle.numbering.proofs.Extend.{news-none, news-known, news-new, extend-adds-news}
+use Rattle.numbering.proofs.Extend.{extend-from-nothing, extend-append, extend-front-grows, nothing-new}
+use Rattle.numbering.proofs.Extend.{offered-is-known, news, news-none, news-known, news-new, extend-adds-news}
 use Rattle.numbering.proofs.Schedules.{thread-in-range, thread-listed}
-use Rattle.numbering.proofs.Visits.{visit, visitBy, kids, visits-of-no-thread, visits-step-by-step}
+use Rattle.numbering.proofs.Visits.{visitBy, kids, visits-of-no-thread, visits-step-by-step}
 
 abbrev pub keyOf : {A : Type 0} → Visit A → A
 keyOf v = v .key

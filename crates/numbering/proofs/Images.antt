@@ -2,22 +2,21 @@
 -- steps agree, the table is that of the images.
 use Prim.Native.Nat.{ℕ, zero, suc, _<_}
 use native.Mathlib.Omega.{arith}
-use mathlib.Core.Path.{_≡_, refl, sym, ap, ap₂, _∙_, subst}
+use mathlib.Core.Path.{_≡_, refl, sym, ap, ap₂, _∙_}
 use mathlib.Core.Bool.{Bool}
-use mathlib.Core.List.{List, [], _∷_, _++_, map, map-filterMap}
-use mathlib.Core.List.{List·Memᴰ as Member, List·Memᴰ·head, List·Memᴰ·tail, List·Memᴰ·not-nil}
-use mathlib.Core.Option.{Option, none, some, Option·map}
-use mathlib.Core.Option.{map-map as map-twice}
-use lib.ListN.{length, getElem?}
+use mathlib.Core.List.{List, [], _∷_, map, map-filterMap, List·Memᴰ as Member, List·Memᴰ·head, List·Memᴰ·tail}
+use mathlib.Core.List.{List·Memᴰ·not-nil}
+use mathlib.Core.Option.{Option, none, some, Option·map, map-map as map-twice}
+use lib.ListN.{getElem?}
 use Rattle.numbering.specs.Schedule.{threads}
 use Rattle.numbering.specs.Numbering.{Entry, extend}
 use Rattle.numbering.specs.Verdict.{Outcome, found, full, closed, Verdict, judged, cut}
-use Rattle.numbering.specs.Queue.{first, child, childrenBy, childrenAt, queue}
+use Rattle.numbering.specs.Queue.{first, child, childrenBy, childrenAt, queue, childTo}
 use Rattle.numbering.proofs.Lists.{place-of-member, member-at-place, kept-alike}
 use Rattle.numbering.proofs.Extend.{extend-image}
 use Rattle.numbering.proofs.Schedules.{thread-in-range}
-use Rattle.numbering.proofs.Turns.{entryKey, childTo}
-use Rattle.numbering.proofs.Origins.{Parent, along-parents, child-by-step, queue-rooted}
+use Rattle.numbering.proofs.Turns.{entryKey}
+use Rattle.numbering.proofs.Origins.{along-parents, child-by-step, queue-rooted}
 
 -- The entry with the image of its situation.
 abbrev pub imageOf : {A B : Type 0} → (A → B) → Entry A → Entry B

@@ -10,13 +10,12 @@ use mathlib.Core.Option.{Option}
 use lib.ListN.{length, take, length-map}
 use lib.Seq.{take-all}
 use Rattle.numbering.specs.Schedule.{Schedule}
-use Rattle.numbering.specs.Numbering.{Visit, Entry, firsts}
+use Rattle.numbering.specs.Numbering.{Visit, Entry, firsts, visit}
 use Rattle.numbering.specs.Queue.{first, queue, Steps}
 use Rattle.numbering.proofs.Lists.{front-of-equal, front-of-front, fronts-of-each-other, front-taken}
-use Rattle.numbering.proofs.Lists.{front-of-map}
-use Rattle.numbering.proofs.Lists.{taken-from-front}
+use Rattle.numbering.proofs.Lists.{front-of-map, taken-from-front}
 use Rattle.numbering.proofs.Extend.{extend-front}
-use Rattle.numbering.proofs.Visits.{visit, kids}
+use Rattle.numbering.proofs.Visits.{kids}
 use Rattle.numbering.proofs.Firsts.{keyOf, expanded, expanded-front, firsts-of-no-thread, firsts-step-by-step}
 use Rattle.numbering.proofs.Firsts.{firsts-front}
 use Rattle.numbering.proofs.Turns.{front-settled}

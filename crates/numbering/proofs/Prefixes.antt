@@ -1,18 +1,17 @@
 -- The prefix of a first schedule is the first schedule of its own situation, which stands at an earlier place.
-use Prim.Native.Nat.{ℕ, zero, suc, _+_, _≤_, _<_}
+use Prim.Native.Nat.{ℕ, suc, _+_}
 use native.Mathlib.Omega.{arith}
-use mathlib.Core.Path.{_≡_, refl, sym, ap, _∙_, subst}
-use mathlib.Core.Logic.{_⊎_, inl, inr, ⊎-elim}
+use mathlib.Core.Path.{_≡_, sym, ap, _∙_, subst}
+use mathlib.Core.Logic.{⊎-elim}
 use mathlib.Core.Bool.{Bool}
-use mathlib.Core.List.{List, [], _∷_, _++_, map, dropLast, nil≢cons, IsPrefix}
-use mathlib.Core.Option.{Option, none, some}
+use mathlib.Core.List.{List, [], _∷_, _++_, map, dropLast}
+use mathlib.Core.Option.{Option, some}
 use lib.ListN.{length, take, getElem?, length-append}
 use Rattle.numbering.specs.Schedule.{Schedule}
-use Rattle.numbering.specs.Numbering.{Visit, Entry, byOf, firsts, entries, FirstSchedule}
+use Rattle.numbering.specs.Numbering.{Visit, Entry, byOf, firsts, entries, FirstSchedule, visit}
 use Rattle.numbering.specs.Queue.{first, queue, Steps}
 use Rattle.numbering.proofs.Lists.{front-taken, place-behind-front, place-in-front, place-of-front, place-in-map}
 use Rattle.numbering.proofs.Lists.{place-of-map}
-use Rattle.numbering.proofs.Visits.{visit}
 use Rattle.numbering.proofs.Firsts.{firsts-front}
 use Rattle.numbering.proofs.FirstSchedules.{place-has-first-schedule, first-schedule-placed}
 use Rattle.numbering.proofs.Expansion.{visitOf}

@@ -1,15 +1,12 @@
 -- What holds of every table that starts with the first place and has children of earlier places after it, so of the
 -- queue and its fronts.
-use Prim.Native.Nat.{ℕ, zero, suc, _+_, _≤_, _<_}
+use Prim.Native.Nat.{ℕ, suc, _≤_, _<_}
 use native.Mathlib.Omega.{arith}
 use native.Mathlib.Decide.{decLt}
 use mathlib.Core.Path.{_≡_, refl, sym, ap, _∙_, subst}
-use mathlib.Core.Logic.{_⊎_, inl, inr, ⊎-elim}
-use mathlib.Core.Bool.{Bool, true, false}
-use mathlib.Core.List.{List, [], _∷_, _++_, map, reverse, reverse-append, map-append, IsPrefix}
-use mathlib.Core.List.{List·Memᴰ as Member, List·Memᴰ·head, List·Memᴰ·cases-cons, List·Memᴰ·append-cases}
-use mathlib.Core.List.{Memᴰ·append-right}
-use mathlib.Core.Option.{Option, none, some, Option·some-injective}
+use mathlib.Core.Bool.{Bool}
+use mathlib.Core.List.{List, [], _∷_, _++_, map, reverse, reverse-append, map-append}
+use mathlib.Core.Option.{Option, some, Option·some-injective}
 use lib.ListN.{length, take, getElem?, length-append}
 use Rattle.numbering.specs.Schedule.{Schedule}
 use Rattle.numbering.specs.Numbering.{Entry}
@@ -17,7 +14,7 @@ use Rattle.numbering.specs.Queue.{first, queue, Steps}
 use Rattle.numbering.specs.Back.{Back, arrived, further}
 use Rattle.numbering.proofs.Lists.{place-in-front, member-at-place}
 use Rattle.numbering.proofs.Extend.{Known, not-both, member-is-known}
-use Rattle.numbering.proofs.Turns.{entryKey, childTo}
+use Rattle.numbering.proofs.Turns.{entryKey}
 use Rattle.numbering.proofs.Origins.{Parent, Rooted, along-parents, placed}
 
 module _ {A : Type 0} (T : ℕ) (start : A) (step : ℕ → A → Option A) (q : List (Entry A))

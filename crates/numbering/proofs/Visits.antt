@@ -4,25 +4,18 @@ use Prim.Native.Nat.{ℕ, zero, suc, _≤_, _<_}
 use native.Mathlib.Omega.{arith}
 use native.Mathlib.Decide.{decLt}
 use mathlib.Core.Path.{_≡_, refl, sym, ap, ap₂, _∙_, subst, subst₂}
-use mathlib.Core.Logic.{_⊎_, inl, inr, ⊎-elim}
+use mathlib.Core.Logic.{⊎-elim}
 use mathlib.Core.Bool.{Bool}
-use mathlib.Core.List.{List, [], _∷_, _++_, map, flatMap, filterMap, filterMap-append, filterMap-map}
-use mathlib.Core.List.{filterMap-cons-none, filterMap-cons-some}
+use mathlib.Core.List.{List, [], _∷_, _++_, flatMap, filterMap, filterMap-append, filterMap-map, filterMap-cons-some}
 use mathlib.Core.List.{List·Memᴰ as Member, List·Memᴰ·not-nil, List·Memᴰ·append-cases, List·Memᴰ·eq-of-singleton}
 use mathlib.Core.Option.{Option, none, some, Option·map, Option·elim, bind, map-eq-some-iff, bind-eq-some-iff}
-use mathlib.Core.Option.{Option·some-injective}
 use lib.ListN.{length}
 use Rattle.numbering.specs.Schedule.{Schedule, threads, upTo, ofLength, Earlier}
-use Rattle.numbering.specs.Numbering.{Visit, visits}
+use Rattle.numbering.specs.Numbering.{Visit, visit, visits}
 use Rattle.numbering.specs.Queue.{Steps}
 use Rattle.numbering.proofs.Lists.{nothing-there, from-the-end, kept-from, kept-of, kept-alike, none-kept}
-use Rattle.numbering.proofs.Lists.{member-of-piece, piece-of-member}
 use Rattle.numbering.proofs.Schedules.{Ascending, ascending-kept, thread-in-range, every-schedule}
-use Rattle.numbering.proofs.Schedules.{schedules-in-order}
-use Rattle.numbering.proofs.Schedules.{followed, schedules-step-by-step}
-
-abbrev pub visit : {A : Type 0} → Schedule → A → Visit A
-visit s a = record { path = s; key = a }
+use Rattle.numbering.proofs.Schedules.{schedules-in-order, followed, schedules-step-by-step}
 
 abbrev pub visitBy : {A : Type 0} → (Schedule → Option A) → Schedule → Option (Visit A)
 visitBy reached s = Option·map (visit s) (reached s)
