@@ -142,14 +142,16 @@ module _ {A : Type 0} {same : A → A → Bool} {T : ℕ} {reached : Schedule �
       nothing-known : (a : A) → Known same keyOf a [] → ⊥
       nothing-known a k = List·Memᴰ·not-nil (known-member same keyOf (laws .same-means) a [] k .1)
 
+  visits-front : (n : ℕ) → IsPrefix (visits T reached n) (visits T reached (suc n))
+  unfolding visits upTo
+  visits-front n = (longest, sym (filterMap-append (visitBy reached) (upTo T n) (ofLength T (suc n))))
+    where
+      longest : List (Visit A)
+      longest = filterMap (visitBy reached) (ofLength T (suc n))
+
   firsts-grow : (n : ℕ) → IsPrefix (numbered n) (numbered (suc n))
-  unfolding firsts visits upTo
-  firsts-grow n =
-      extend-front-grows same keyOf [] (visits T reached n) (visits T reached (suc n)) (
-        filterMap (visitBy reached) (ofLength T (suc n)),
-        sym
-            (filterMap-append (visitBy reached) (upTo T n) (ofLength T (suc n))),
-      )
+  unfolding firsts
+  firsts-grow n = extend-front-grows same keyOf [] (visits T reached n) (visits T reached (suc n)) (visits-front n)
 
   pub firsts-front : (n m : ℕ) → n ≤ m → IsPrefix (numbered n) (numbered m)
   firsts-front n m le =

@@ -98,14 +98,19 @@ module _ {A B : Type 0} (same : A → A → Bool) (same′ : B → B → Bool) (
   queue-of-images (suc i) =
       ap₂ (λ q o. extend same′ entryKey q (childrenAt step′ T i o)) (queue-of-images i)
       (ap (λ q. getElem? q i) (queue-of-images i) ∙ place-of-image (imageOf f) q i)
-      ∙ ap (extend same′ entryKey (map (imageOf f) q)) (images-to-add i (getElem? q i) good-there)
-      ∙ sym
-      (extend-image same same′ entryKey entryKey f (imageOf f) (λ x. refl) Good alike q
-      (childrenAt step T i (getElem? q i)) (entries-are-good i)
-      (good-to-add i (getElem? q i) good-there))
+      ∙ ap (extend same′ entryKey (map (imageOf f) q)) (images-to-add i (getElem? q i) good-there) ∙ sym images-added
     where
       q : List (Entry A)
       q = queue same T start step i
 
       good-there : (x : Entry A) → getElem? q i ≡ some x → Good (x .key)
       good-there x e = entries-are-good i x (member-at-place q i e)
+
+      to-add : List (Entry A)
+      to-add = childrenAt step T i (getElem? q i)
+
+      images-added : map (imageOf f) (extend same entryKey q to-add)
+          ≡ extend same′ entryKey (map (imageOf f) q) (map (imageOf f) to-add)
+      images-added =
+          extend-image same same′ entryKey entryKey f (imageOf f) (λ x. refl) Good alike q to-add (entries-are-good i)
+          (good-to-add i (getElem? q i) good-there)

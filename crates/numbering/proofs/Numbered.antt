@@ -73,3 +73,7 @@ module _ {A : Type 0} {same : A → A → Bool} {T : ℕ} {reached : Schedule �
       go (no ge) =
           ap (take (suc i)) (fronts-of-each-other (numbered n) (visited i)
           (firsts-in-table i (omega (arith, length-map (table i) visitOf)) n) (table-in-firsts i n le))
+
+  -- Theorem: looking at longer schedules changes none of the first i + 1.
+  pub longer-schedules-number-alike : (i n : ℕ) → i ≤ n → take (suc i) (numbered n) ≡ take (suc i) (numbered i)
+  longer-schedules-number-alike i n le = same-first-visits i n le ∙ sym (same-first-visits i i (omega arith))

@@ -77,25 +77,32 @@ module _ {A : Type 0} {same : A → A → Bool} {T : ℕ} {reached : Schedule �
       x = w .0
 
       root : (k ≡ 0) × (x ≡ first start) → (a : A) × FirstSchedule reached s a × (step t a ≡ some b)
-      root e =
-          absurd
-          (let l : 0 ≡ length (s ++ t ∷ []) = ap (λ z. length (z .path)) (sym (e .1))
-          ∙ ap (λ v. length (v .path)) (w .2) in
-          omega (arith, length-append s (t ∷ [])))
+      root e = absurd (omega (arith, no-length, length-append s (t ∷ [])))
+        where
+          no-length : 0 ≡ length (s ++ t ∷ [])
+          no-length = ap (λ z. length (z .path)) (sym (e .1)) ∙ ap (λ v. length (v .path)) (w .2)
 
       child : Parent T start step (table N) k x → (a : A) × FirstSchedule reached s a × (step t a ≡ some b)
-      child r =
-          let e : r .parent .path ++ r .thread ∷ [] ≡ s ++ t ∷ [] = ap (λ z. z .path) (sym (r .child-is)) ∙ ap
-          (λ v. v .path) (w .2) in
-          let path-is : r .parent .path ≡ s = sym (without-last-thread (r .parent .path) (r .thread)) ∙ ap dropLast e
-          ∙ without-last-thread s t in
-          let thread-is : suc (r .thread) ≡ suc t = sym (by-last-thread (r .parent .path) (r .thread)) ∙ ap byOf e
-          ∙ by-last-thread s t in (
-            r .parent .key,
-            subst (λ z. FirstSchedule reached z (r .parent .key)) path-is
-                (queue-has-first-schedules N (r .index) (r .parent) (r .there)),
-            ap (λ u. step u (r .parent .key)) (omega arith) ∙ r .made ∙ ap (λ v. some (v .key)) (w .2),
-          )
+      child r = (
+        a,
+        subst (λ z. FirstSchedule reached z a) path-is (queue-has-first-schedules N (r .index) (r .parent) (r .there)),
+        ap (λ u. step u a) (omega (arith, thread-is)) ∙ r .made ∙ ap (λ v. some (v .key)) (w .2),
+      )
+        where
+          a : A
+          a = r .parent .key
+
+          s′ : Schedule
+          s′ = r .parent .path
+
+          path-of-x : s′ ++ r .thread ∷ [] ≡ s ++ t ∷ []
+          path-of-x = ap (λ z. z .path) (sym (r .child-is)) ∙ ap (λ v. v .path) (w .2)
+
+          path-is : s′ ≡ s
+          path-is = sym (without-last-thread s′ (r .thread)) ∙ ap dropLast path-of-x ∙ without-last-thread s t
+
+          thread-is : suc (r .thread) ≡ suc t
+          thread-is = sym (by-last-thread s′ (r .thread)) ∙ ap byOf path-of-x ∙ by-last-thread s t
 
   -- Theorem: of the first n + 1 entries, the first has the start, and every other is a child of an earlier one.
   pub entries-rooted : (n : ℕ) → Rooted T start step (take (suc n) (entries same T reached n))

@@ -4,8 +4,10 @@ use Prim.Native.Nat.{ℕ, suc, _≤_, _<_}
 use native.Mathlib.Omega.{arith}
 use native.Mathlib.Decide.{decLt}
 use mathlib.Core.Path.{_≡_, refl, sym, ap, _∙_, subst}
+use mathlib.Core.Logic.{⊎-elim}
 use mathlib.Core.Bool.{Bool}
 use mathlib.Core.List.{List, [], _∷_, _++_, map, reverse, reverse-append, map-append}
+use mathlib.Core.List.{List·Memᴰ as Member, List·Memᴰ·not-nil, List·Memᴰ·eq-of-singleton, List·Memᴰ·append-cases}
 use mathlib.Core.Option.{Option, some, Option·some-injective}
 use lib.ListN.{length, take, getElem?, length-append}
 use Rattle.numbering.specs.Schedule.{Schedule}
@@ -26,6 +28,34 @@ module _ {A : Type 0} (T : ℕ) (start : A) (step : ℕ → A → Option A) (q :
       along-parents T start step q rooted (λ k x. length (x .path) ≤ k) (omega arith)
       (λ k x p below. omega
       (arith, ap (λ z. length (z .path)) (p .child-is), length-append (p .parent .path) (p .thread ∷ []), p .earlier))
+
+  -- A place was reached from an earlier one, the first from none, by one of the T threads.
+  pub from-is-earlier : (k : ℕ) (x : Entry A) → getElem? q k ≡ some x → x .from ≤ k
+  unfolding first
+  from-is-earlier k x h =
+      ⊎-elim (λ e. omega (arith, ap (λ z. z .from) (e .1))) (λ p. omega (arith, ap (λ z. z .from) (p .child-is), p .earlier))
+      (rooted k x h)
+
+  pub from-none-is-first : (k : ℕ) (x : Entry A) → getElem? q k ≡ some x → x .from ≡ 0 → k ≡ 0
+  from-none-is-first k x h e = ⊎-elim (λ r. r .0) (λ p. absurd (omega (arith, ap (λ z. z .from) (p .child-is)))) (rooted k x h)
+
+  pub by-is-thread : (k : ℕ) (x : Entry A) → getElem? q k ≡ some x → x .by ≤ T
+  unfolding first
+  by-is-thread k x h =
+      ⊎-elim (λ e. omega (arith, ap (λ z. z .by) (e .1))) (λ p. omega (arith, ap (λ z. z .by) (p .child-is), p .is-thread))
+      (rooted k x h)
+
+  pub path-has-threads : (k : ℕ) (x : Entry A) → getElem? q k ≡ some x → (t : ℕ) → Member t (x .path) → t < T
+  unfolding first
+  path-has-threads =
+      along-parents T start step q rooted (λ k x. (t : ℕ) → Member t (x .path) → t < T)
+      (λ t m. absurd (List·Memᴰ·not-nil m)) one-more
+    where
+      one-more : (k : ℕ) (x : Entry A) (p : Parent T start step q k x)
+          → ((t : ℕ) → Member t (p .parent .path) → t < T) → (t : ℕ) → Member t (x .path) → t < T
+      one-more k x p below t m =
+          ⊎-elim (below t) (λ l. subst (λ u. u < T) (sym (List·Memᴰ·eq-of-singleton l)) (p .is-thread))
+          (List·Memᴰ·append-cases (p .parent .path) (subst (λ z. Member t (z .path)) (p .child-is) m))
 
   -- Going back from a place gives its path, the last thread first, the threads numbered from 1.
   pub goes-back : (k : ℕ) (x : Entry A) → getElem? q k ≡ some x → Back q k (reverse (map suc (x .path)))
