@@ -54,8 +54,7 @@ number-at-place same key self (y ∷ l) (suc i) {x} h fresh =
     ap (λ b. cond b 1 (suc (number same key l (key x)))) (r .0) ∙ ap suc (number-at-place same key self l i h (r .1))
 
 module _ {A : Type 0} {same : A → A → Bool} {T : ℕ} {reached : Schedule → Option A} {start : A}
-    {step : ℕ → A → Option A}
-    (laws : Steps same T reached start step) where
+    {step : ℕ → A → Option A} (laws : Steps same T reached start step) where
   abbrev table : ℕ → List (Entry A)
   table i = queue same T start step i
 

@@ -75,5 +75,5 @@ module _ {A : Type 0} (same : A → A → Bool) (T : ℕ) (start : A) (step : �
       go (some x) e below =
           visited-expands i x e ∙ ap (λ m. extend same keyOf m (kids T step (visitOf x))) below
           ∙ expanded-one-more (map visitOf (take i q)) (visitOf x)
-          ∙ ap (grown) (sym (map-append visitOf (take i q) (x ∷ [])))
+          ∙ ap grown (sym (map-append visitOf (take i q) (x ∷ [])))
           ∙ ap (λ m. grown (map visitOf m)) (sym (one-more-in-front i q e) ∙ settled)

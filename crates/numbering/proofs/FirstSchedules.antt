@@ -21,8 +21,7 @@ use Rattle.numbering.proofs.Visits.{visit-is-run, run-is-visit, visits-
 use Rattle.numbering.proofs.Firsts.{keyOf, firsts-front}
 
 module _ {A : Type 0} {same : A → A → Bool} {T : ℕ} {reached : Schedule → Option A} {start : A}
-    {step : ℕ → A → Option A}
-    (laws : Steps same T reached start step) where
+    {step : ℕ → A → Option A} (laws : Steps same T reached start step) where
   abbrev numbered : ℕ → List (Visit A)
   numbered n = firsts same T reached n
 
@@ -60,9 +59,9 @@ module _ {A : Type 0} {same : A → A → Bool} {T : ℕ} {reached : Schedule �
 
       before : Member (visit s b) (r .before) → (s ≡ v .path) ⊎ Earlier (v .path) s
       before l =
-          let c = subst (Known same keyOf b) same-front
-          (offered-is-known same keyOf (laws .same-self) [] (r .before) l) in
-          let w = known-member same keyOf (laws .same-means) b (take k (numbered n)) c in
+          let c = offered-is-known same keyOf (laws .same-self) [] (r .before) l in
+          let w = known-member same keyOf (laws .same-means) b (take k (numbered n))
+          (subst (Known same keyOf b) same-front c) in
           absurd (none-before (w .0) (w .1) (subst P (w .2) p))
 
       after : Member (visit s b) (r .after) → Earlier (v .path) s
@@ -114,8 +113,11 @@ module _ {A : Type 0} {same : A → A → Bool} {T : ℕ} {reached : Schedule �
       g = place-has-first-schedule n (p .0) (w .0) (p .1)
 
       path-is : w .0 .path ≡ s
-      path-is = ⊎-elim (λ e. e) (λ l. ⊎-elim sym (λ l′. absurd (not-earlier-both-ways s (w .0 .path) l l′))
-          (g .earliest s (f .reaches ∙ ap some (w .2)))) (f .earliest (w .0 .path) (g .reaches ∙ ap some (sym (w .2))))
+      path-is =
+          ⊎-elim (λ e. e)
+          (λ l. ⊎-elim sym (λ l′. absurd (not-earlier-both-ways s (w .0 .path) l l′))
+          (g .earliest s (f .reaches ∙ ap some (w .2))))
+          (f .earliest (w .0 .path) (g .reaches ∙ ap some (sym (w .2))))
 
       is : w .0 ≡ visit s a
       is = λ i. record { path = path-is i; key = sym (w .2) i }

@@ -64,8 +64,7 @@ module _ {A : Type 0} (same : A → A → Bool) (T : ℕ) (start : A) (step : �
       (front-of-pieces (kids T step) l m p)
 
 module _ {A : Type 0} {same : A → A → Bool} {T : ℕ} {reached : Schedule → Option A} {start : A}
-    {step : ℕ → A → Option A}
-    (laws : Steps same T reached start step) where
+    {step : ℕ → A → Option A} (laws : Steps same T reached start step) where
   abbrev joined : List (Visit A) → List (Visit A) → List (Visit A)
   joined l vs = extend same keyOf l vs
 
@@ -92,11 +91,11 @@ module _ {A : Type 0} {same : A → A → Bool} {T : ℕ} {reached : Schedule �
 
   -- The kids of a visit whose situation an earlier visit has are known.
   kids-of-news : (l seen vs : List (Visit A)) → ((a : A) → Known same keyOf a seen → StepsKnown l a)
-      → joined l (flatMap (kids-of) vs) ≡ joined l (flatMap (kids-of) (news same keyOf seen vs))
+      → joined l (flatMap kids-of vs) ≡ joined l (flatMap kids-of (news same keyOf seen vs))
   unfolding flatMap
-  kids-of-news l seen [] h = ap (λ m. joined l (flatMap (kids-of) m)) (sym (news-none same keyOf seen))
+  kids-of-news l seen [] h = ap (λ m. joined l (flatMap kids-of m)) (sym (news-none same keyOf seen))
   kids-of-news l seen (v ∷ vs) h =
-      extend-append same keyOf l (kids-of v) (flatMap (kids-of) vs)
+      extend-append same keyOf l (kids-of v) (flatMap kids-of vs)
       ∙ turn (known same keyOf (v .key) seen) refl (kids-of-news l seen vs h) (kids-of-news l′ (seen ++ v ∷ []) vs more)
     where
       l′ : List (Visit A)
@@ -114,15 +113,15 @@ module _ {A : Type 0} {same : A → A → Bool} {T : ℕ} {reached : Schedule �
               subst (StepsKnown l′) (ap keyOf (sym (List·Memᴰ·eq-of-singleton (r .1))) ∙ sym (r .2)) (kids-offered l v)
 
       turn : (b : Bool) → known same keyOf (v .key) seen ≡ b
-          → joined l (flatMap (kids-of) vs) ≡ joined l (flatMap (kids-of) (news same keyOf seen vs))
-          → joined l′ (flatMap (kids-of) vs) ≡ joined l′ (flatMap (kids-of) (news same keyOf (seen ++ v ∷ []) vs))
-          → joined l′ (flatMap (kids-of) vs) ≡ joined l (flatMap (kids-of) (news same keyOf seen (v ∷ vs)))
+          → joined l (flatMap kids-of vs) ≡ joined l (flatMap kids-of (news same keyOf seen vs))
+          → joined l′ (flatMap kids-of vs) ≡ joined l′ (flatMap kids-of (news same keyOf (seen ++ v ∷ []) vs))
+          → joined l′ (flatMap kids-of vs) ≡ joined l (flatMap kids-of (news same keyOf seen (v ∷ vs)))
       turn true q e₁ e₂ =
-          ap (λ m. joined m (flatMap (kids-of) vs)) (no-new-kid l v (h (v .key) q)) ∙ e₁
-          ∙ ap (λ m. joined l (flatMap (kids-of) m)) (sym (news-known same keyOf seen v vs q))
+          ap (λ m. joined m (flatMap kids-of vs)) (no-new-kid l v (h (v .key) q)) ∙ e₁
+          ∙ ap (λ m. joined l (flatMap kids-of m)) (sym (news-known same keyOf seen v vs q))
       turn false q e₁ e₂ =
-          e₂ ∙ sym (extend-append same keyOf l (kids-of v) (flatMap (kids-of) (news same keyOf (seen ++ v ∷ []) vs)))
-          ∙ ap (λ m. joined l (flatMap (kids-of) m)) (sym (news-new same keyOf seen v vs q))
+          e₂ ∙ sym (extend-append same keyOf l (kids-of v) (flatMap kids-of (news same keyOf (seen ++ v ∷ []) vs)))
+          ∙ ap (λ m. joined l (flatMap kids-of m)) (sym (news-new same keyOf seen v vs q))
 
   -- The first visits, one length after the other.
   pub firsts-of-no-thread : numbered zero ≡ visit [] start ∷ []
@@ -135,9 +134,9 @@ module _ {A : Type 0} {same : A → A → Bool} {T : ℕ} {reached : Schedule �
   unfolding firsts
   firsts-step-by-step n =
       ap (joined []) (visits-step-by-step laws n)
-      ∙ extend-from-nothing same keyOf (visit [] start) (flatMap (kids-of) (visits T reached n))
+      ∙ extend-from-nothing same keyOf (visit [] start) (flatMap kids-of (visits T reached n))
       ∙ kids-of-news (visit [] start ∷ []) [] (visits T reached n) (λ a k. absurd (nothing-known a k))
-      ∙ ap (λ m. grown m) (sym (extend-adds-news same keyOf [] (visits T reached n)))
+      ∙ ap grown (sym (extend-adds-news same keyOf [] (visits T reached n)))
     where
       nothing-known : (a : A) → Known same keyOf a [] → ⊥
       nothing-known a k = List·Memᴰ·not-nil (known-member same keyOf (laws .same-means) a [] k .1)

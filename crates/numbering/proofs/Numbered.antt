@@ -22,8 +22,7 @@ use Rattle.numbering.proofs.Turns.{front-settled}
 use Rattle.numbering.proofs.Expansion.{visitOf, visited-by-expansion}
 
 module _ {A : Type 0} {same : A → A → Bool} {T : ℕ} {reached : Schedule → Option A} {start : A}
-    {step : ℕ → A → Option A}
-    (laws : Steps same T reached start step) where
+    {step : ℕ → A → Option A} (laws : Steps same T reached start step) where
   abbrev table : ℕ → List (Entry A)
   table i = queue same T start step i
 

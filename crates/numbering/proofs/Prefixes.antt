@@ -20,8 +20,7 @@ use Rattle.numbering.proofs.Origins.{Parent, Rooted, rooted-front, queu
 use Rattle.numbering.proofs.Entries.{by-last-thread, without-last-thread, entries-by-queue}
 
 module _ {A : Type 0} {same : A → A → Bool} {T : ℕ} {reached : Schedule → Option A} {start : A}
-    {step : ℕ → A → Option A}
-    (laws : Steps same T reached start step) where
+    {step : ℕ → A → Option A} (laws : Steps same T reached start step) where
   abbrev table : ℕ → List (Entry A)
   table i = queue same T start step i
 

@@ -33,16 +33,19 @@ module _ {A : Type 0} (T : ℕ) (start : A) (step : ℕ → A → Option A) (q :
   pub from-is-earlier : (k : ℕ) (x : Entry A) → getElem? q k ≡ some x → x .from ≤ k
   unfolding first
   from-is-earlier k x h =
-      ⊎-elim (λ e. omega (arith, ap (λ z. z .from) (e .1))) (λ p. omega (arith, ap (λ z. z .from) (p .child-is), p .earlier))
+      ⊎-elim (λ e. omega (arith, ap (λ z. z .from) (e .1)))
+      (λ p. omega (arith, ap (λ z. z .from) (p .child-is), p .earlier))
       (rooted k x h)
 
   pub from-none-is-first : (k : ℕ) (x : Entry A) → getElem? q k ≡ some x → x .from ≡ 0 → k ≡ 0
-  from-none-is-first k x h e = ⊎-elim (λ r. r .0) (λ p. absurd (omega (arith, ap (λ z. z .from) (p .child-is)))) (rooted k x h)
+  from-none-is-first k x h e =
+      ⊎-elim (λ r. r .0) (λ p. absurd (omega (arith, ap (λ z. z .from) (p .child-is)))) (rooted k x h)
 
   pub by-is-thread : (k : ℕ) (x : Entry A) → getElem? q k ≡ some x → x .by ≤ T
   unfolding first
   by-is-thread k x h =
-      ⊎-elim (λ e. omega (arith, ap (λ z. z .by) (e .1))) (λ p. omega (arith, ap (λ z. z .by) (p .child-is), p .is-thread))
+      ⊎-elim (λ e. omega (arith, ap (λ z. z .by) (e .1)))
+      (λ p. omega (arith, ap (λ z. z .by) (p .child-is), p .is-thread))
       (rooted k x h)
 
   pub path-has-threads : (k : ℕ) (x : Entry A) → getElem? q k ≡ some x → (t : ℕ) → Member t (x .path) → t < T
@@ -100,8 +103,7 @@ module _ {A : Type 0} (q : List (Entry A)) where
 
 -- No two places of the queue have one situation.
 module _ {A : Type 0} {same : A → A → Bool} {T : ℕ} {reached : Schedule → Option A} {start : A}
-    {step : ℕ → A → Option A}
-    (laws : Steps same T reached start step) where
+    {step : ℕ → A → Option A} (laws : Steps same T reached start step) where
   abbrev table : ℕ → List (Entry A)
   table i = queue same T start step i
 

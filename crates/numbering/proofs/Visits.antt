@@ -25,8 +25,7 @@ unfoldable pub kids : {A : Type 0} → ℕ → (ℕ → A → Option A) → Visi
 kids T step v = filterMap (λ t. Option·map (visit (v .path ++ t ∷ [])) (step t (v .key))) (threads T)
 
 module _ {A : Type 0} {same : A → A → Bool} {T : ℕ} {reached : Schedule → Option A} {start : A}
-    {step : ℕ → A → Option A}
-    (laws : Steps same T reached start step) where
+    {step : ℕ → A → Option A} (laws : Steps same T reached start step) where
   after-one : (s : Schedule)
       → filterMap (visitBy reached) (followed T s) ≡ Option·elim (visitBy reached s) [] (kids T step)
   unfolding kids bind Option·elim
