@@ -2,7 +2,6 @@
 -- those of at most n.
 use Prim.Native.Nat.{ℕ, zero, suc, _≤_, _<_}
 use native.Mathlib.Omega.{arith}
-use native.Mathlib.Decide.{le-ind}
 use mathlib.Core.Path.{_≡_, refl, sym, ap, _∙_, subst}
 use mathlib.Core.Logic.{⊎-elim}
 use mathlib.Core.Bool.{Bool, true, false}
@@ -12,7 +11,7 @@ use mathlib.Core.Option.{Option, some, Option·map, map-eq-some-iff}
 use Rattle.numbering.specs.Schedule.{Schedule, threads, ofLength, upTo}
 use Rattle.numbering.specs.Numbering.{Visit, visits, known, extend, firsts, visit}
 use Rattle.numbering.specs.Queue.{Steps}
-use Rattle.numbering.proofs.Lists.{front-of-itself, front-of-front, front-of-pieces, kept-from, kept-of}
+use Rattle.numbering.proofs.Lists.{front-of-later, front-of-pieces, kept-from, kept-of}
 use Rattle.numbering.proofs.Extend.{Known, known-in-append, known-member, known-stays, extend-done}
 use Rattle.numbering.proofs.Extend.{extend-from-nothing, extend-append, extend-front-grows, nothing-new}
 use Rattle.numbering.proofs.Extend.{offered-is-known, news, news-none, news-known, news-new, extend-adds-news}
@@ -153,6 +152,4 @@ module _ {A : Type 0} {same : A → A → Bool} {T : ℕ} {reached : Schedule �
   firsts-grow n = extend-front-grows same keyOf [] (visits T reached n) (visits T reached (suc n)) (visits-front n)
 
   pub firsts-front : (n m : ℕ) → n ≤ m → IsPrefix (numbered n) (numbered m)
-  firsts-front n m le =
-      le-ind (λ k. IsPrefix (numbered n) (numbered k)) (front-of-itself (numbered n))
-      (λ k h p. front-of-front (numbered n) (numbered k) (numbered (suc k)) p (firsts-grow k)) m le
+  firsts-front = front-of-later numbered firsts-grow

@@ -6,8 +6,8 @@ use native.Mathlib.Decide.{decLt}
 use mathlib.Core.Path.{_≡_, refl, sym, ap, _∙_, subst}
 use mathlib.Core.Logic.{⊎-elim}
 use mathlib.Core.Bool.{Bool}
-use mathlib.Core.List.{List, [], _∷_, _++_, map, reverse, reverse-append, map-append}
-use mathlib.Core.List.{List·Memᴰ as Member, List·Memᴰ·not-nil, List·Memᴰ·eq-of-singleton, List·Memᴰ·append-cases}
+use mathlib.Core.List.{List, [], _∷_, _++_, map, reverse, reverse-append, map-append, List·Memᴰ as Member}
+use mathlib.Core.List.{List·Memᴰ·not-nil, List·Memᴰ·eq-of-singleton, List·Memᴰ·append-cases}
 use mathlib.Core.Option.{Option, some, Option·some-injective}
 use lib.ListN.{length, take, getElem?, length-append}
 use Rattle.numbering.specs.Schedule.{Schedule}
