@@ -10,7 +10,7 @@ use mathlib.Core.Option.{Option, none, some, Option·map, map-map as map-twice}
 use lib.ListN.{getElem?}
 use Rattle.numbering.specs.Schedule.{threads}
 use Rattle.numbering.specs.Numbering.{Entry, extend}
-use Rattle.numbering.specs.Verdict.{Outcome, found, full, closed, Verdict, judged, cut}
+use Rattle.numbering.specs.Verdict.{Outcome, found, full, closed, Verdict, judged, cut, entryEnds}
 use Rattle.numbering.specs.Queue.{first, child, childrenBy, childrenAt, queue, childTo}
 use Rattle.numbering.proofs.Lists.{place-of-member, member-at-place, kept-alike}
 use Rattle.numbering.proofs.Extend.{extend-image}
@@ -114,3 +114,13 @@ module _ {A B : Type 0} (same : A → A → Bool) (same′ : B → B → Bool) (
       images-added =
           extend-image same same′ entryKey entryKey f (imageOf f) (λ x. refl) Good alike q to-add (entries-are-good i)
           (good-to-add i (getElem? q i) good-there)
+
+  -- Theorem: the answer over the images is the image of the answer.
+  pub answer-of-images : {E : Type 0} (ending : A → Option E) (ending′ : B → Option E)
+      → ((a : A) → Good a → ending′ (f a) ≡ ending a) → (N : ℕ)
+      → cut (entryEnds ending′) N (queue same′ T (f start) step′ N)
+      ≡ verdictImage (imageOf f) (cut (entryEnds ending) N (queue same T start step N))
+  answer-of-images ending ending′ agrees N =
+      ap (cut (entryEnds ending′) N) (queue-of-images N)
+      ∙ cut-of-images (imageOf f) (entryEnds ending) (entryEnds ending′) N (queue same T start step N)
+      (λ x m. agrees (x .key) (entries-are-good N x m))
