@@ -1,0 +1,5 @@
+pub mod Schedule
+pub mod Numbering
+pub mod Verdict
+pub mod Queue
+pub mod Back
