@@ -46,7 +46,7 @@ pub struct Reading {
 }
 
 pub enum Operand {
-    Constant(usize),
+    Constant(u8),
     Register(usize),
 }
 
@@ -68,7 +68,7 @@ pub enum Line {
         b: Operand,
     },
     Jump {
-        target: usize,
+        target: u8,
         a: Operand,
     },
     Write {

@@ -68,7 +68,7 @@ fn operand_of(k: usize, x: u8) -> Operand
 {
     let v = x as usize;
     if v < k {
-        return Operand::Constant(v);
+        return Operand::Constant(x);
     }
     if v < FIRST_REGISTER {
         return Operand::Register(0);
@@ -88,7 +88,10 @@ pub fn decode(f: Fields, k: usize) -> Line
     match op {
         2 => Line::Equal { reg, a, b },
         3 => Line::Less { reg, a, b },
-        4 => Line::Jump { target, a },
+        4 => Line::Jump {
+            target: f.target,
+            a,
+        },
         5 => Line::Write {
             location: target,
             a,

@@ -48,6 +48,9 @@ make-line-requires-3 c κs = search needs
 enum-known-line-4 : tie.Need-enum-known-line-4
 enum-known-line-4 c = search needs
 
+cast-make-line : tie.Need-cast-make-line
+cast-make-line c = search needs
+
 operand-of-requires-7 : tie.Need-operand-of-requires-7
 operand-of-requires-7 c κs = search needs
 
@@ -218,6 +221,7 @@ fields-of-spec =
     operand-of-requires-6
     make-line-requires-3
     enum-known-line-4
+    cast-make-line
     operand-of-requires-7
     make-line-requires-4
     enum-known-line-5
