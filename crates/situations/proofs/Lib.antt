@@ -2,3 +2,4 @@ pub mod Reached
 pub mod Bounds
 pub mod Bounded
 pub mod Named
+pub mod StepRows
