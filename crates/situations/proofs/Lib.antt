@@ -3,3 +3,5 @@ pub mod Bounds
 pub mod Bounded
 pub mod Named
 pub mod StepRows
+pub mod StepLists
+pub mod StepGrowth
