@@ -5,3 +5,4 @@ pub mod Named
 pub mod StepRows
 pub mod StepLists
 pub mod StepGrowth
+pub mod KnownSink
