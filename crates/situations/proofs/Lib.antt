@@ -6,3 +6,5 @@ pub mod StepRows
 pub mod StepLists
 pub mod StepGrowth
 pub mod KnownSink
+pub mod StepDecisions
+pub mod KnownSets
