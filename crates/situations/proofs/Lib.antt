@@ -8,3 +8,4 @@ pub mod StepGrowth
 pub mod KnownSink
 pub mod StepDecisions
 pub mod KnownSets
+pub mod KnownRows
