@@ -9,3 +9,4 @@ pub mod KnownSink
 pub mod StepDecisions
 pub mod KnownSets
 pub mod KnownRows
+pub mod StepExact
