@@ -10,3 +10,4 @@ pub mod StepDecisions
 pub mod KnownSets
 pub mod KnownRows
 pub mod StepExact
+pub mod StepOn
