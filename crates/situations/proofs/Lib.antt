@@ -11,3 +11,4 @@ pub mod KnownSets
 pub mod KnownRows
 pub mod StepExact
 pub mod StepOn
+pub mod StartExact
