@@ -12,3 +12,4 @@ pub mod KnownRows
 pub mod StepExact
 pub mod StepOn
 pub mod StartExact
+pub mod StepSchedule
