@@ -1,17 +1,16 @@
 -- The locations known to a list of events after an SC step.
-use mathlib.Core.Path.{_≡_, refl, sym, ap, ap₂, _∙_, subst, subst⁻¹}
+use mathlib.Core.Path.{_≡_, refl, sym, ap, _∙_, subst, subst⁻¹}
 use mathlib.Core.Bool.{Bool, true, false, not, _||_, _&&_, decide}
 use mathlib.Core.List.{List, [], _∷_, _++_, List·Memᴰ as Member, Memᴰ·append-left, Memᴰ·append-right}
-use mathlib.Core.List.{List·Memᴰ·append-cases, List·Memᴰ·not-nil}
+use mathlib.Core.List.{List·Memᴰ·append-cases}
 use mathlib.Core.Logic.{_⊎_, inl, inr, ⊎-elim, _≢_}
 use Prim.Native.Nat.{ℕ, _<_}
-use native.Mathlib.Omega.{arith}
 use native.Mathlib.Decide.{ℕ-discrete}
 use borrow.Author.Tests.{eq-eqb, ne-eqb}
 use lib.Dec.{eqb}
 use lib.ListN.{length}
-use Rattle.relations.specs.Closure.{Relation, IsOrBefore, Reaches}
-use Rattle.relations.proofs.Sink.{old-way, way-kept, sink-has-no-way-out}
+use Rattle.relations.specs.Closure.{Relation, Reaches}
+use Rattle.relations.proofs.Sink.{old-way, sink-has-no-way-out}
 use Rattle.sets.specs.Sets.{insert, remove, join, setOf}
 use Rattle.sets.proofs.SetOf.{setOf-same, insert-setOf, remove-setOf, join-setOf}
 use Rattle.program.specs.Thread.{writing}

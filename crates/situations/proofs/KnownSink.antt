@@ -14,16 +14,16 @@ use Rattle.relations.proofs.Laws.{before-joins}
 use Rattle.relations.proofs.Sink.{before-sink, reach-sink}
 use Rattle.relations.proofs.Lists.{precedes-members, precedes-put-in, length-of-snoc}
 use Rattle.program.specs.Thread.{writing}
-use Rattle.model.specs.Graph.{Id, start, event, Event, readE, writeE, updateE, Graph, eventsOf, order, eventAt}
+use Rattle.model.specs.Graph.{Id, event, Event, readE, writeE, updateE, Graph, eventsOf, order, eventAt}
 use Rattle.model.specs.Graph.{sourceOf, locationOf, threadEvents}
 use Rattle.model.specs.Readable.{starts, accesses}
 use Rattle.model.specs.Order.{ThreadOrder, starting, within, ModificationOrder, at, FromRead, HappensEdge, threadOrder}
 use Rattle.model.specs.Order.{readsFrom, HappensBefore, ScEdge, happensBefore, modificationOrder, fromRead, ScOrder}
 use Rattle.model.proofs.Lookup.{own-event, same-locations, reading-event, present-not-next, own-events}
 use Rattle.model.proofs.Growth.{Addition, in-order, newId, newEvent, newOrder, grown, upToPicked, order-here}
-use Rattle.model.proofs.Growth.{order-written, old-order, member-old-or-new, precedes-old-or-new, new-there}
-use Rattle.model.proofs.Growth.{there-old-or-new, reads-from-grows, event-stays}
-use Rattle.model.proofs.WellFormed.{WellFormed, WriteTo, writesTo, listed-not-next, new-source}
+use Rattle.model.proofs.Growth.{order-written, member-old-or-new, precedes-old-or-new, new-there}
+use Rattle.model.proofs.Growth.{there-old-or-new, event-stays}
+use Rattle.model.proofs.WellFormed.{WellFormed, writesTo, listed-not-next, new-source}
 use Rattle.model.proofs.Sinks.{happens-sink, sc-sink, one-location}
 use Rattle.model.proofs.NewEdges.{thread-order-in-sc, own-before-new, picked-before-new}
 use Rattle.situations.proofs.StepLists.{is-access, access-is, start-listed, listed-start}
@@ -179,8 +179,8 @@ module _ {g : Graph} (f : WellFormed g) (d : Addition g) where
             let e = reading-event (grown d) b (r .read) in
             ⊎-elim (λ n. absurd (r .other (n .0)))
             (λ o. is-access g (d .location) b o
-            (one-location f (r .source) (locationOf (e .0)) (d .location) (f .sources-listed b (r .source) (e .0) o (e .2))
-            (new-stands-last (r .later) .1)))
+            (one-location f (r .source) (locationOf (e .0)) (d .location)
+            (f .sources-listed b (r .source) (e .0) o (e .2)) (new-stands-last (r .later) .1)))
             (there-old-or-new d b (e .1))
 
         listed : {a : Id} → Member a (order g (d .location)) → ModificationOrder (grown d) a (newId d)

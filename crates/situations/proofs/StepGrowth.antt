@@ -1,5 +1,5 @@
 -- What an access does to the newest writes, their values, and the lists of events that a situation's sets are about.
-use mathlib.Core.Path.{_≡_, refl, sym, ap, _∙_, subst, subst⁻¹}
+use mathlib.Core.Path.{_≡_, sym, ap, _∙_, subst, subst⁻¹}
 use mathlib.Core.Bool.{true, false, true≢false}
 use mathlib.Core.List.{List, [], _∷_, _++_, map, List·Memᴰ as Member, Memᴰ·append-left, Memᴰ·append-right}
 use mathlib.Core.List.{List·Memᴰ·append-cases, List·Memᴰ·eq-of-singleton, List·Memᴰ·not-nil, List·Memᴰ·head}
@@ -8,9 +8,9 @@ use mathlib.Core.Logic.{_⊎_, inl, inr, ⊎-elim, _≢_}
 use Prim.Native.Nat.{ℕ, _<_}
 use native.Mathlib.Omega.{arith}
 use lib.ListN.{length}
-use Rattle.program.specs.Thread.{Action, reads, writes, updates, writing}
-use Rattle.model.specs.Graph.{Id, start, event, Event, Graph, eventsOf, order, eventAt, below, threadEvents, locationOf}
-use Rattle.model.specs.Graph.{valueWritten, valueOf, eventOf}
+use Rattle.program.specs.Thread.{writing}
+use Rattle.model.specs.Graph.{Id, start, Event, Graph, eventsOf, eventAt, below, threadEvents, locationOf}
+use Rattle.model.specs.Graph.{valueWritten, valueOf}
 use Rattle.model.specs.Readable.{lastOr, newest, starts, accesses}
 use Rattle.model.proofs.Lookup.{own-event, place-of-own, more-events, new-own-event, same-locations}
 use Rattle.model.proofs.Lookup.{other-order, other-threads-events, present-not-next}
