@@ -116,13 +116,15 @@ module _ {g : Graph} (f : WellFormed g) (d : Addition g) (last : d .after ≡ []
 
     pub threads-after-write : threadRow T L (grown d) ≡ set (without (threadRow T L g)) (d .thread) seenByWrite
     threads-after-write =
-        row-changed-and-set T (toThread L (grown d)) (toThread L g) (λ n. remove n (d .location)) (d .thread) seenByWrite
+        row-changed-and-set T (toThread L (grown d)) (toThread L g) (λ n. remove n (d .location))
+        (d .thread) seenByWrite
         (λ u l n. write-stays f d last size write (others-stay f d u n))
         (λ l. write-joins f d last size write (own-joins f d) (λ b. Memᴰ·append-left _) ∙ sym seen-by-write)
 
     pub newest-after-write : newestRow L (grown d) ≡ set (without (newestRow L g)) (d .location) seenByWrite
     newest-after-write =
-        row-changed-and-set L (toNewest L (grown d)) (toNewest L g) (λ n. remove n (d .location)) (d .location) seenByWrite
+        row-changed-and-set L (toNewest L (grown d)) (toNewest L g) (λ n. remove n (d .location))
+        (d .location) seenByWrite
         (λ y l n. write-stays f d last size write
         (newest-stays f d y (subst⁻¹ (λ m. y < m) size l) (newest-elsewhere d y n)))
         (λ l. write-joins f d last size write (newest-joins f d (d .location) (newest-is-new f d last write))
@@ -130,7 +132,8 @@ module _ {g : Graph} (f : WellFormed g) (d : Addition g) (last : d .after ≡ []
 
     pub accesses-after-write : accessRow L (grown d) ≡ set (without (accessRow L g)) (d .location) seenByWrite
     accesses-after-write =
-        row-changed-and-set L (toAccess L (grown d)) (toAccess L g) (λ n. remove n (d .location)) (d .location) seenByWrite
+        row-changed-and-set L (toAccess L (grown d)) (toAccess L g) (λ n. remove n (d .location))
+        (d .location) seenByWrite
         (λ y l n. write-stays f d last size write (accesses-stay f d y n))
         (λ l. write-joins f d last size write (accesses-join f d) (λ b. Memᴰ·append-right (ownEvents g (d .thread)))
         ∙ sym seen-by-write)
