@@ -2,3 +2,14 @@ pub mod Reached
 pub mod Bounds
 pub mod Bounded
 pub mod Named
+pub mod StepRows
+pub mod StepLists
+pub mod StepGrowth
+pub mod KnownSink
+pub mod StepDecisions
+pub mod KnownSets
+pub mod KnownRows
+pub mod StepExact
+pub mod StepOn
+pub mod StartExact
+pub mod StepSchedule
