@@ -2,3 +2,5 @@ pub mod Reached
 pub mod Bounds
 pub mod Bounded
 pub mod Named
+pub mod ReadableLists
+pub mod ReadableStarts
