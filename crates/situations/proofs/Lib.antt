@@ -4,3 +4,5 @@ pub mod Bounded
 pub mod Named
 pub mod ReadableLists
 pub mod ReadableStarts
+pub mod ReadableSink
+pub mod ReadableSplits
