@@ -6,3 +6,4 @@ pub mod ReadableLists
 pub mod ReadableStarts
 pub mod ReadableSink
 pub mod ReadableSplits
+pub mod ReadableOverwritten
