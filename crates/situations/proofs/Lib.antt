@@ -7,3 +7,4 @@ pub mod ReadableStarts
 pub mod ReadableSink
 pub mod ReadableSplits
 pub mod ReadableOverwritten
+pub mod ReadableSets
