@@ -8,3 +8,5 @@ pub mod ReadableSink
 pub mod ReadableSplits
 pub mod ReadableOverwritten
 pub mod ReadableSets
+pub mod ReadableRows
+pub mod ReadableFamilies
