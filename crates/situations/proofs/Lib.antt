@@ -10,3 +10,4 @@ pub mod ReadableOverwritten
 pub mod ReadableSets
 pub mod ReadableRows
 pub mod ReadableFamilies
+pub mod ReadableAfter
