@@ -11,3 +11,4 @@ pub mod ReadableSets
 pub mod ReadableRows
 pub mod ReadableFamilies
 pub mod ReadableAfter
+pub mod TestWitness

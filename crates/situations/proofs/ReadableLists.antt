@@ -8,14 +8,14 @@ use mathlib.Core.Logic.{_⊎_, inl, inr, ⊎-elim, _≢_, _↔_}
 use Prim.Native.Nat.{ℕ, zero, suc, _<_}
 use native.Mathlib.Omega.{arith}
 use native.Mathlib.Decide.{ℕ-discrete}
-use borrow.Author.Tests.{eq-eqb, eqb-true}
-use lib.Dec.{eqb}
+use borrow.Author.Tests.{eq-eqb, eqb-true, ltb-true}
+use lib.Dec.{eqb, ltb}
 use lib.ListN.{length, getD, set, length-map, length-set}
 use lib.Seq.{ext-getD, getD-set-same, getD-set-other}
 use Rattle.model.specs.Graph.{below}
 use Rattle.model.proofs.Start.{length-below, row-of-below}
-use Rattle.sets.specs.Sets.{empty, insert, meet, setOf}
-use Rattle.sets.proofs.SetOf.{setOf-same, insert-setOf, meet-setOf, setOf-none}
+use Rattle.sets.specs.Sets.{empty, has, insert, meet, setOf}
+use Rattle.sets.proofs.SetOf.{has-setOf, has-setOf-below, setOf-same, insert-setOf, meet-setOf, setOf-none}
 use Rattle.rules.specs.Update.{meetRows}
 
 module _ {A : Type 0} where
@@ -122,3 +122,13 @@ no-set K p e =
     setOf-same K (λ u. decide (p u)) (λ u. false)
     (λ u l. same-truth (decide (p u)) false (λ h. absurd (e u (decide-iff (p u) .0 h))) (λ h. absurd (true≢false (sym h))))
     ∙ setOf-none K
+
+pub member-decided : (n : ℕ) {P : ℕ → Type 0} (p : (u : ℕ) → Dec (P u)) (j : ℕ)
+    → (has (setOf n (λ u. decide (p u))) j ≡ true) ↔ ((j < n) × P j)
+member-decided n p j = (
+  λ h. let b = and-truth (ltb j n) (decide (p j)) .0 (sym (has-setOf n _ j) ∙ h) in (
+    ltb-true j n (b .0),
+    decide-iff (p j) .0 (b .1),
+  ),
+  λ h. has-setOf-below n _ j (h .0) ∙ decide-iff (p j) .1 (h .1),
+)
