@@ -12,3 +12,4 @@ pub mod ReadableRows
 pub mod ReadableFamilies
 pub mod ReadableAfter
 pub mod TestWitness
+pub mod TestEnding
