@@ -13,3 +13,4 @@ pub mod ReadableFamilies
 pub mod ReadableAfter
 pub mod TestWitness
 pub mod TestEnding
+pub mod TestNamed
