@@ -4,6 +4,7 @@ pub mod Bounded
 pub mod Named
 pub mod ReadableLists
 pub mod ReadableStarts
+pub mod ReadableNewest
 pub mod ReadableSink
 pub mod ReadableSplits
 pub mod ReadableOverwritten

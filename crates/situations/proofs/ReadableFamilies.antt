@@ -1,25 +1,26 @@
 -- The families of sets of values before and after an SC step, for each thread and for each location's newest write.
-use mathlib.Core.Path.{_≡_, refl, sym, ap, ap₂, _∙_, subst, subst⁻¹}
-use mathlib.Core.Bool.{Bool, true, false, not}
-use mathlib.Core.List.{List, [], _∷_, _++_, map, map-map, List·Memᴰ as Member, List·Memᴰ·eq-of-singleton}
+use mathlib.Core.Path.{_≡_, sym, ap, ap₂, _∙_, subst, subst⁻¹}
+use mathlib.Core.Bool.{Bool, true, false}
+use mathlib.Core.List.{List, [], _∷_, map, map-map, List·Memᴰ·eq-of-singleton}
 use mathlib.Core.Logic.{_≢_}
 use Prim.Native.Nat.{ℕ, _<_}
-use lib.ListN.{length, getD, set}
-use lib.Seq.{getD-set-same, set-set}
-use Rattle.program.specs.Thread.{Action, reads, writes, updates, writing}
-use Rattle.rules.specs.Update.{rowOf, meetRows, staleAt, ownRow}
-use Rattle.model.specs.Graph.{Id, start, Graph, order, below, threadEvents, valueOf}
-use Rattle.model.specs.Readable.{newest, lastOr}
+use lib.ListN.{length, set}
+use Rattle.program.specs.Thread.{writing}
+use Rattle.rules.specs.Update.{rowOf, staleAt, ownRow}
+use Rattle.model.specs.Graph.{Id, Graph, below, threadEvents, valueOf}
+use Rattle.model.specs.Readable.{newest}
 use Rattle.model.proofs.Lookup.{other-threads-events}
 use Rattle.model.proofs.Start.{row-of-below}
 use Rattle.model.proofs.Growth.{Addition, newId, newEvent, newOrder, grown, hasLocation}
 use Rattle.model.proofs.WellFormed.{WellFormed, listed-not-next}
-use Rattle.situations.proofs.ReadableLists.{size-of-below, below-same, below-changed, map-of-set}
-use Rattle.situations.proofs.ReadableStarts.{newest-listed, last-is-newest}
-use Rattle.situations.proofs.ReadableSink.{Old, New, seenByNew, thread-events-old, thread-new, alone-new}
-use Rattle.situations.proofs.ReadableOverwritten.{keeps, order-grown}
-use Rattle.situations.proofs.ReadableRows.{row, metRow, staleRow, row-of-sources, order-elsewhere, order-same, row-kept}
-use Rattle.situations.proofs.ReadableRows.{row-by-new, row-stale, own-row}
+use Rattle.situations.proofs.ReadableLists.{below-same, below-changed}
+use Rattle.situations.proofs.ReadableStarts.{newest-listed}
+use Rattle.situations.proofs.ReadableSink.{Old, seenByNew, thread-events-old, thread-new, alone-new}
+use Rattle.situations.proofs.ReadableOverwritten.{keeps}
+use Rattle.situations.proofs.ReadableNewest.{order-elsewhere, order-after-read, newest-kept, picked-is-newest}
+use Rattle.situations.proofs.ReadableNewest.{new-is-newest}
+use Rattle.situations.proofs.ReadableRows.{row, metRow, staleRow, row-of-sources, row-kept, row-by-new}
+use Rattle.situations.proofs.ReadableRows.{row-stale, own-row}
 
 -- The rows of T threads, and of the newest writes of L locations.
 abbrev pub byThread : (K L T : ℕ) → Graph → (leave : Bool) → List (List ℕ)
@@ -28,17 +29,8 @@ byThread K L T g leave = map (λ t. row K L g leave (threadEvents g t)) (below T
 abbrev pub byNewest : (K L : ℕ) → Graph → (leave : Bool) → List (List ℕ)
 byNewest K L g leave = map (λ x. row K L g leave (newest g x ∷ [])) (below L)
 
-module _ {g : Graph} (f : WellFormed g) (d : Addition g) (newestPicked : d .after ≡ []) (K L T : ℕ) (leave : Bool)
+module _ {g : Graph} (f : WellFormed g) (d : Addition g) (none : d .after ≡ []) (K L T : ℕ) (leave : Bool)
     (locations : length (g .orders) ≡ L) (hasThread : d .thread < T) where
-  pub picked-newest : newest g (d .location) ≡ d .picked
-  picked-newest =
-      last-is-newest g (d .location) (d .before) (d .picked)
-      (d .split ∙ ap (λ l. d .before ++ d .picked ∷ l) newestPicked)
-
-  newest-kept : (z : ℕ) → order (grown d) z ≡ order g z → newest (grown d) z ≡ newest g z
-  unfolding newest
-  newest-kept z q = ap (lastOr (start z)) q
-
   newest-old : (z : ℕ) → z < L → Old f d (newest g z ∷ [])
   newest-old z l b m q =
       listed-not-next f (d .thread) z (newest g z) (newest-listed f z (subst⁻¹ (λ n. z < n) locations l))
@@ -58,7 +50,7 @@ module _ {g : Graph} (f : WellFormed g) (d : Addition g) (newestPicked : d .afte
       (sym (row-of-below (λ t. row K L g leave (threadEvents g t)) [] T (d .thread) hasThread))
       (sym
       (row-of-below (λ z. row K L g leave (newest g z ∷ [])) [] L (d .location) hasPlace
-      ∙ ap (λ b. row K L g leave (b ∷ [])) picked-newest))
+      ∙ ap (λ b. row K L g leave (b ∷ [])) (picked-is-newest d none)))
 
   thread-elsewhere : (t : ℕ) → t ≢ d .thread → threadEvents (grown d) t ≡ threadEvents g t
   thread-elsewhere = other-threads-events g (d .thread) (newEvent d) (d .location) (newOrder d)
@@ -66,15 +58,15 @@ module _ {g : Graph} (f : WellFormed g) (d : Addition g) (newestPicked : d .afte
   module _ (r : writing (d .action) ≡ false) where
     pub threads-after-read : byThread K L T (grown d) leave ≡ set (byThread K L T g leave) (d .thread) newRow
     threads-after-read =
-        below-changed (λ t. row K L g leave (threadEvents g t)) (λ t. row K L (grown d) leave (threadEvents (grown d) t))
-        T (d .thread) newRow (row-by-new f d K L leave r (threadEvents (grown d) (d .thread)) (thread-new f d) ∙ new-row)
+        below-changed _ (λ t. row K L (grown d) leave (threadEvents (grown d) t)) T (d .thread) newRow
+        (row-by-new f d K L leave r (threadEvents (grown d) (d .thread)) (thread-new f d) ∙ new-row)
         (λ t k n. ap (row K L (grown d) leave) (thread-elsewhere t n)
         ∙ row-kept f d K L leave r (threadEvents g t) (thread-events-old f d t))
 
     pub newest-after-read : byNewest K L (grown d) leave ≡ byNewest K L g leave
     newest-after-read =
         below-same _ _ L
-        (λ z l. ap (λ b. row K L (grown d) leave (b ∷ [])) (newest-kept z (order-same f d K L leave r z))
+        (λ z l. ap (λ b. row K L (grown d) leave (b ∷ [])) (newest-kept d z (order-after-read d r z))
         ∙ row-kept f d K L leave r (newest g z ∷ []) (newest-old z l))
 
   module _ (w : writing (d .action) ≡ true) (bound : valueOf g (d .picked) < K) where
@@ -93,10 +85,10 @@ module _ {g : Graph} (f : WellFormed g) (d : Addition g) (newestPicked : d .afte
         (d .thread) (ownRow (d .location) newRow)
     threads-after-write =
         below-changed _ (λ t. row K L (grown d) leave (threadEvents (grown d) t)) T (d .thread) _
-        (own-row f d K L leave newestPicked w (threadEvents (grown d) (d .thread)) (thread-new f d)
+        (own-row f d K L leave none w (threadEvents (grown d) (d .thread)) (thread-new f d)
         ∙ ap (ownRow (d .location)) new-row)
         (λ t k n. ap (row K L (grown d) leave) (thread-elsewhere t n)
-        ∙ row-stale f d K L leave newestPicked w (threadEvents g t) (thread-events-old f d t) hasPlace bound)
+        ∙ row-stale f d K L leave none w (threadEvents g t) (thread-events-old f d t) hasPlace bound)
         ∙ ap (λ l. set l (d .thread) (ownRow (d .location) newRow)) (stale-family (threadEvents g) T)
 
     pub newest-after-write : byNewest K L (grown d) leave
@@ -105,11 +97,9 @@ module _ {g : Graph} (f : WellFormed g) (d : Addition g) (newestPicked : d .afte
         (d .location) (ownRow (d .location) newRow)
     newest-after-write =
         below-changed _ (λ z. row K L (grown d) leave (newest (grown d) z ∷ [])) L (d .location) _
-        (ap (λ b. row K L (grown d) leave (b ∷ []))
-        (last-is-newest (grown d) (d .location) (order g (d .location)) (newId d) (order-grown f d newestPicked w))
-        ∙ own-row f d K L leave newestPicked w (newId d ∷ []) (alone-new f d)
+        (ap (λ b. row K L (grown d) leave (b ∷ [])) (new-is-newest d none w)
+        ∙ own-row f d K L leave none w (newId d ∷ []) (alone-new f d)
         ∙ ap (ownRow (d .location)) new-row)
-        (λ z k n. ap (λ b. row K L (grown d) leave (b ∷ []))
-        (newest-kept z (order-elsewhere f d K L leave z n))
-        ∙ row-stale f d K L leave newestPicked w (newest g z ∷ []) (newest-old z k) hasPlace bound)
+        (λ z k n. ap (λ b. row K L (grown d) leave (b ∷ [])) (newest-kept d z (order-elsewhere d z n))
+        ∙ row-stale f d K L leave none w (newest g z ∷ []) (newest-old z k) hasPlace bound)
         ∙ ap (λ l. set l (d .location) (ownRow (d .location) newRow)) (stale-family (λ z. newest g z ∷ []) L)

@@ -1,9 +1,9 @@
 -- Laws on lists with an element for each number below n, on rows of sets, on two splits of one list, and on sets of
 -- decisions.
 use mathlib.Core.Path.{_≡_, refl, sym, ap, _∙_, subst}
-use mathlib.Core.Bool.{Bool, true, false, cond, _&&_, _||_, decide, decide-iff, true≢false}
+use mathlib.Core.Bool.{Bool, true, false, _&&_, _||_, decide, decide-iff, true≢false}
 use mathlib.Core.List.{List, [], _∷_, _++_, map, map-append, List·Memᴰ as Member, List·Memᴰ·tail, Memᴰ·append-right}
-use mathlib.Core.List.{head-eq-of-cons-eq, tail-eq-of-cons-eq}
+use mathlib.Core.List.{tail-eq-of-cons-eq}
 use mathlib.Core.Logic.{_⊎_, inl, inr, ⊎-elim, _≢_, _↔_}
 use Prim.Native.Nat.{ℕ, zero, suc, _<_}
 use native.Mathlib.Omega.{arith}
@@ -28,7 +28,9 @@ module _ {A : Type 0} where
   below-changed f h n i v here other =
       ext-getD v (map h (below n)) (set (map f (below n)) i v)
       (size-of-below h n ∙ sym (length-set (map f (below n)) i v ∙ size-of-below f n))
-      (λ j l. let k : j < n = omega (arith, size-of-below h n) in row-of-below h v n j k ∙ sym (at j k (ℕ-discrete j i)))
+      (λ j l.
+      let k : j < n = omega (arith, size-of-below h n) in
+      row-of-below h v n j k ∙ sym (at j k (ℕ-discrete j i)))
     where
       at : (j : ℕ) → j < n → Dec (j ≡ i) → getD (set (map f (below n)) i v) j v ≡ h j
       at j k (yes q) =
@@ -112,7 +114,8 @@ module _ (K : ℕ) {P Q : ℕ → Type 0} (p : (u : ℕ) → Dec (P u)) (q : (u 
       (λ h.
       decide-iff (p u) .1
       (e u .1
-      (⊎-elim (λ b. inr (eqb-true v u b)) (λ b. inl (decide-iff (q u) .0 b)) (or-truth (eqb v u) (decide (q u)) .0 h)))))
+      (⊎-elim (λ b. inr (eqb-true v u b)) (λ b. inl (decide-iff (q u) .0 b))
+      (or-truth (eqb v u) (decide (q u)) .0 h)))))
       ∙ sym (insert-setOf K (λ u. decide (q u)) v l)
 
 -- Nothing passes.
@@ -120,7 +123,8 @@ pub no-set : (K : ℕ) {P : ℕ → Type 0} (p : (u : ℕ) → Dec (P u)) → ((
     → setOf K (λ u. decide (p u)) ≡ empty
 no-set K p e =
     setOf-same K (λ u. decide (p u)) (λ u. false)
-    (λ u l. same-truth (decide (p u)) false (λ h. absurd (e u (decide-iff (p u) .0 h))) (λ h. absurd (true≢false (sym h))))
+    (λ u l. same-truth (decide (p u)) false (λ h. absurd (e u (decide-iff (p u) .0 h)))
+    (λ h. absurd (true≢false (sym h))))
     ∙ setOf-none K
 
 pub member-decided : (n : ℕ) {P : ℕ → Type 0} (p : (u : ℕ) → Dec (P u)) (j : ℕ)

@@ -1,8 +1,8 @@
--- An SC step that writes: the newest write of its location is overwritten and goes stale, and nobody who has seen the new
--- write can read an older one.
+-- An SC step that writes: the newest write of its location is overwritten and goes stale, and nobody who has seen the
+-- new write can read an older one.
 use mathlib.Core.Path.{_≡_, refl, sym, ap, _∙_, subst, subst⁻¹}
 use mathlib.Core.Bool.{Bool, true, false, not, true≢false}
-use mathlib.Core.List.{List, [], _∷_, _++_, List·Memᴰ as Member, List·Memᴰ·head, List·Memᴰ·tail, List·Memᴰ·not-nil}
+use mathlib.Core.List.{List, [], _∷_, _++_, List·Memᴰ as Member, List·Memᴰ·head, List·Memᴰ·tail}
 use mathlib.Core.List.{List·Memᴰ·append-cases, Memᴰ·append-left, Memᴰ·append-right, List·Memᴰ·eq-of-singleton, cons≢nil}
 use mathlib.Core.Option.{some}
 use mathlib.Core.Logic.{_⊎_, inl, inr, ⊎-elim, _↔_}
@@ -12,8 +12,10 @@ use Rattle.program.specs.Thread.{Action, reads, writes, updates, writing}
 use Rattle.model.specs.Graph.{Id, Graph, order, eventAt, valueWritten, valueOf, isUpdate, eventOf}
 use Rattle.model.specs.Run.{startsWithUpdate}
 use Rattle.model.specs.Readable.{Readable}
-use Rattle.model.proofs.Growth.{Addition, in-order, newId, newEvent, grown, order-here, order-written, new-there, event-stays}
+use Rattle.model.proofs.Growth.{Addition, in-order, newId, newEvent, grown, new-there}
+use Rattle.model.proofs.Growth.{event-stays}
 use Rattle.model.proofs.WellFormed.{WellFormed}
+use Rattle.situations.proofs.ReadableNewest.{picked-last, order-grown}
 use Rattle.situations.proofs.ReadableSink.{Seen, Old, seen-kept, new-unseen}
 
 -- Whether a write that the action overwrites may still be picked: with leave, not before a read-modify-write.
@@ -35,14 +37,6 @@ module _ {g : Graph} (f : WellFormed g) (d : Addition g) where
   listed-kept y v m = let w = f .listed-writes y v m in w .there ∙ sym (event-stays d v (w .there))
 
   module _ (newest : d .after ≡ []) (w : writing (d .action) ≡ true) where
-    last-there : order g (d .location) ≡ d .before ++ d .picked ∷ []
-    last-there = d .split ∙ ap (λ l. d .before ++ d .picked ∷ l) newest
-
-    pub order-grown : order (grown d) (d .location) ≡ order g (d .location) ++ newId d ∷ []
-    order-grown =
-        order-here d ∙ order-written d w ∙ ap (λ l. (d .before ++ d .picked ∷ []) ++ newId d ∷ l) newest
-        ∙ ap (λ l. l ++ newId d ∷ []) (sym last-there)
-
     value-kept : {v : Id} → Member v (order g (d .location)) → valueOf g v ≡ valueOf (grown d) v
     value-kept {v} m = ap valueWritten (listed-kept (d .location) v m)
 
@@ -58,7 +52,8 @@ module _ {g : Graph} (f : WellFormed g) (d : Addition g) where
         → (m : List Id) × (r .after ≡ m ++ newId d ∷ []) × (r .before ++ r .write ∷ m ≡ order g (d .location))
     new-after r =
         ⊎-elim (λ q. absurd (r .older (q .0))) (λ q. q)
-        (split-of-snoc (r .before) (r .write) (r .after) (order g (d .location)) (newId d) (sym (r .split) ∙ order-grown))
+        (split-of-snoc (r .before) (r .write) (r .after) (order g (d .location)) (newId d)
+        (sym (r .split) ∙ order-grown d newest w))
 
     pub none-older : (es : List Id) (leave : Bool) (u : ℕ) → Member (newId d) es
         → Readable (grown d) es leave (d .location) u → ⊥
@@ -79,7 +74,7 @@ module _ {g : Graph} (f : WellFormed g) (d : Addition g) where
             write = r .write;
             after = r .after ++ newId d ∷ [];
             split =
-                order-grown ∙ ap (λ l. l ++ newId d ∷ []) (r .split)
+                order-grown d newest w ∙ ap (λ l. l ++ newId d ∷ []) (r .split)
                 ∙ sym (regroup-snoc (r .before) (r .write) (r .after) (newId d));
             older = λ q. snoc-not-nil (r .after) (newId d) (sym q);
             unseen =
@@ -104,7 +99,8 @@ module _ {g : Graph} (f : WellFormed g) (d : Addition g) where
             write = d .picked;
             after = newId d ∷ [];
             split =
-                order-grown ∙ ap (λ l. l ++ newId d ∷ []) last-there ∙ sym (regroup-snoc (d .before) (d .picked) [] (newId d));
+                order-grown d newest w ∙ ap (λ l. l ++ newId d ∷ []) (picked-last d newest)
+                ∙ sym (regroup-snoc (d .before) (d .picked) [] (newId d));
             older = cons≢nil;
             unseen = λ v m k. new-unseen f d es old (subst (Seen (grown d) es) (List·Memᴰ·eq-of-singleton m) k);
             unfollowed =
@@ -117,7 +113,8 @@ module _ {g : Graph} (f : WellFormed g) (d : Addition g) where
       unfolding startsWithUpdate
       was r = let a = new-after r in go (a .0) (a .1) (a .2)
         where
-          go : (m : List Id) → r .after ≡ m ++ newId d ∷ [] → r .before ++ r .write ∷ m ≡ order g (d .location) → Overwritten
+          go : (m : List Id) → r .after ≡ m ++ newId d ∷ [] → r .before ++ r .write ∷ m ≡ order g (d .location)
+              → Overwritten
           go [] q o = inr (keeps-unfollowed leave (d .action) (d .location) _ (d .picked) .1 followed, value)
             where
               followed : leave ≡ true → isUpdate (some (newEvent d)) ≡ false
@@ -125,7 +122,7 @@ module _ {g : Graph} (f : WellFormed g) (d : Addition g) where
                   ap isUpdate (sym (new-there d)) ∙ ap (startsWithUpdate (grown d)) (sym q) ∙ r .unfollowed l
 
               picked : d .picked ≡ r .write
-              picked = same-last (d .before) (r .before) (d .picked) (r .write) (sym last-there ∙ sym o) .1
+              picked = same-last (d .before) (r .before) (d .picked) (r .write) (sym (picked-last d newest) ∙ sym o) .1
 
               value : valueOf g (d .picked) ≡ u
               value =

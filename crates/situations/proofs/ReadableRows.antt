@@ -1,25 +1,24 @@
 -- The rows of sets of values before and after an SC step: for each location what could still be read after some events.
-use mathlib.Core.Path.{_≡_, refl, sym, ap, _∙_, subst}
-use mathlib.Core.Bool.{Bool, true, false, true≢false}
+use mathlib.Core.Path.{_≡_, sym, ap, _∙_}
+use mathlib.Core.Bool.{Bool, true, false}
 use mathlib.Core.List.{List, [], _∷_, _++_, map, append-nil}
-use mathlib.Core.Logic.{_≢_}
 use Prim.Native.Nat.{ℕ, _<_}
-use lib.ListN.{length, getD, set}
-use Rattle.sets.specs.Sets.{empty, meet}
+use lib.ListN.{getD, set}
+use Rattle.sets.specs.Sets.{empty}
 use Rattle.program.specs.Thread.{Action, reads, writes, updates, writing}
 use Rattle.rules.specs.Update.{meetRows, stalen, ownRow}
-use Rattle.model.specs.Graph.{Id, Graph, order, below, threadEvents, valueOf}
+use Rattle.model.specs.Graph.{Id, Graph, below, valueOf}
 use Rattle.model.specs.Readable.{newest}
-use Rattle.model.proofs.Lookup.{other-order}
 use Rattle.model.proofs.Start.{row-of-below}
-use Rattle.model.proofs.Growth.{Addition, newId, newEvent, newOrder, grown, hasLocation, OrderAfter, unchanged, putIn}
-use Rattle.model.proofs.Growth.{order-after}
+use Rattle.model.proofs.Growth.{Addition, grown}
 use Rattle.model.proofs.WellFormed.{WellFormed}
 use Rattle.situations.specs.Situation.{readable}
 use Rattle.situations.proofs.ReadableLists.{below-same, below-changed, meet-of-rows}
 use Rattle.situations.proofs.ReadableSink.{Old, New, seenByNew, sources}
+use Rattle.situations.proofs.ReadableNewest.{order-elsewhere, order-after-read}
 use Rattle.situations.proofs.ReadableOverwritten.{keeps}
-use Rattle.situations.proofs.ReadableSets.{readable-met, readable-kept, readable-by-new, own-empty, readable-stale}
+use Rattle.situations.proofs.ReadableSets.{readable-met, readable-kept, readable-by-new, own-empty}
+use Rattle.situations.proofs.ReadableSets.{readable-stale}
 
 -- The row after the events es, in a graph with L locations.
 abbrev pub row : (K L : ℕ) → Graph → (leave : Bool) → List Id → List ℕ
@@ -49,23 +48,13 @@ module _ (K L : ℕ) (g : Graph) (leave : Bool) (es : List Id) (w : Id) where
   row-of-sources (updates v) = row-met
 
 module _ {g : Graph} (f : WellFormed g) (d : Addition g) (K L : ℕ) (leave : Bool) where
-  pub order-elsewhere : (y : ℕ) → y ≢ d .location → order (grown d) y ≡ order g y
-  order-elsewhere = other-order g (d .thread) (newEvent d) (d .location) (newOrder d)
-
   -- After a read.
   module _ (r : writing (d .action) ≡ false) where
-    pub order-same : (y : ℕ) → order (grown d) y ≡ order g y
-    order-same y = go (order-after d y)
-      where
-        go : OrderAfter d y → order (grown d) y ≡ order g y
-        go (unchanged o) = o
-        go (putIn q w o n) = absurd (true≢false (sym w ∙ r))
-
     pub row-kept : (es : List Id) → Old f d es → row K L (grown d) leave es ≡ row K L g leave es
-    row-kept es old = below-same _ _ L (λ y l. readable-kept f d K leave y (order-same y) es old)
+    row-kept es old = below-same _ _ L (λ y l. readable-kept f d K leave y (order-after-read d r y) es old)
 
     pub row-by-new : (es : List Id) → New f d es → row K L (grown d) leave es ≡ row K L g leave (seenByNew f d)
-    row-by-new es n = below-same _ _ L (λ y l. readable-by-new f d K leave y (order-same y) es n)
+    row-by-new es n = below-same _ _ L (λ y l. readable-by-new f d K leave y (order-after-read d r y) es n)
 
   -- After a write or a read-modify-write.
   module _ (newest : d .after ≡ []) (w : writing (d .action) ≡ true) where
@@ -77,11 +66,11 @@ module _ {g : Graph} (f : WellFormed g) (d : Addition g) (K L : ℕ) (leave : Bo
         (readable-stale f d newest w K leave es old l
         ∙ ap (stalen (keeps leave (d .action)) (valueOf g (d .picked)))
         (sym (row-of-below (readable K g leave es) 0 L (d .location) h)))
-        (λ y k n. readable-kept f d K leave y (order-elsewhere y n) es old)
+        (λ y k n. readable-kept f d K leave y (order-elsewhere d y n) es old)
 
     pub own-row : (es : List Id) → New f d es
         → row K L (grown d) leave es ≡ ownRow (d .location) (row K L g leave (seenByNew f d))
     own-row es n =
         below-changed (readable K g leave (seenByNew f d)) (readable K (grown d) leave es) L (d .location) empty
         (own-empty f d newest w K leave es (n .has))
-        (λ y k m. readable-by-new f d K leave y (order-elsewhere y m) es n)
+        (λ y k m. readable-by-new f d K leave y (order-elsewhere d y m) es n)

@@ -1,15 +1,15 @@
 -- The sets of values that could still be read, before and after an SC step, one set at a time.
-use mathlib.Core.Path.{_≡_, refl, sym, ap, _∙_, subst}
+use mathlib.Core.Path.{_≡_, refl, sym, _∙_, subst}
 use mathlib.Core.Bool.{Bool, true, false, true≢false}
-use mathlib.Core.List.{List, [], _∷_, _++_, List·Memᴰ as Member}
+use mathlib.Core.List.{List, [], _++_, List·Memᴰ as Member}
 use mathlib.Core.Logic.{_⊎_, inl, inr, ⊎-elim, _↔_}
 use Prim.Native.Nat.{ℕ, _<_}
 use Rattle.relations.specs.Closure.{Precedes}
 use Rattle.relations.proofs.Lists.{precedes-members}
-use Rattle.sets.specs.Sets.{empty, insert, meet}
+use Rattle.sets.specs.Sets.{empty, meet}
 use Rattle.program.specs.Thread.{writing}
 use Rattle.rules.specs.Update.{stalen}
-use Rattle.model.specs.Graph.{Id, start, Graph, order, valueOf}
+use Rattle.model.specs.Graph.{Id, Graph, order, valueOf}
 use Rattle.model.specs.Readable.{Readable}
 use Rattle.model.proofs.Choices.{dec-readable}
 use Rattle.model.proofs.Growth.{Addition, newId, grown}
@@ -60,8 +60,8 @@ module _ {g : Graph} (f : WellFormed g) (d : Addition g) (K : ℕ) (leave : Bool
         (listed-not-next f (d .thread) y v (precedes-members (order g y) h .1)) n)
 
 -- Where it is overwritten.
-module _ {g : Graph} (f : WellFormed g) (d : Addition g) (newest : d .after ≡ []) (w : writing (d .action) ≡ true) (K : ℕ)
-    (leave : Bool) where
+module _ {g : Graph} (f : WellFormed g) (d : Addition g) (newest : d .after ≡ []) (w : writing (d .action) ≡ true)
+    (K : ℕ) (leave : Bool) where
   pub own-empty : (es : List Id) → Member (newId d) es → readable K (grown d) leave es (d .location) ≡ empty
   unfolding readable
   own-empty es m =

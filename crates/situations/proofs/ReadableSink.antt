@@ -1,19 +1,19 @@
--- What is seen after an access, in happens-before: by others what they saw, and by the new event what its thread has seen
--- and what it read.
+-- What is seen after an access, in happens-before: by others what they saw, and by the new event what its thread has
+-- seen and what it read.
 use mathlib.Core.Path.{_≡_, refl, sym, ap, _∙_, subst, subst⁻¹}
 use mathlib.Core.List.{List, [], _∷_, _++_, map, map-append, List·Memᴰ as Member, List·Memᴰ·head, List·Memᴰ·not-nil}
 use mathlib.Core.List.{List·Memᴰ·append-cases, Memᴰ·append-left, Memᴰ·append-right, List·Memᴰ·eq-of-singleton}
 use mathlib.Core.Option.{some, Option·some-injective}
 use mathlib.Core.Logic.{_⊎_, inl, inr, ⊎-elim, _↔_}
-use Prim.Native.Nat.{ℕ, _<_}
+use Prim.Native.Nat.{ℕ}
 use native.Mathlib.Omega.{arith}
 use lib.ListN.{length}
 use Rattle.relations.specs.Closure.{IsOrBefore, Reaches}
 use Rattle.relations.proofs.Sink.{sink-has-no-way-out, old-way, way-kept, before-sink, reach-sink}
 use Rattle.relations.proofs.Lists.{length-of-snoc}
 use Rattle.program.specs.Thread.{Action, reads, writes, updates}
-use Rattle.model.specs.Graph.{Id, start, event, Graph, eventsOf, order, eventAt, below, threadEvents, sourceOf, eventOf}
-use Rattle.model.specs.Order.{ThreadOrder, starting, within, ReadsFrom, HappensEdge, threadOrder, readsFrom}
+use Rattle.model.specs.Graph.{Id, start, event, Graph, eventsOf, below, threadEvents, sourceOf, eventOf}
+use Rattle.model.specs.Order.{ThreadOrder, starting, within, HappensEdge, threadOrder, readsFrom}
 use Rattle.model.specs.Order.{HappensBefore}
 use Rattle.model.proofs.Lookup.{own-events, own-event, place-of-own}
 use Rattle.model.proofs.Growth.{Addition, newId, newEvent, newOrder, grown, new-there}
@@ -64,7 +64,8 @@ module _ {g : Graph} (f : WellFormed g) (d : Addition g) where
       let q₂ : r .0 ≡ length (eventsOf g (d .thread)) = cc (r .2) in
       omega (arith, r .1, ap (λ u. length (eventsOf g u)) q₁)
 
-  before-old : {v b : Id} → (b ≡ newId d → ⊥) → IsOrBefore (HappensBefore (grown d)) v b → IsOrBefore (HappensBefore g) v b
+  before-old : {v b : Id} → (b ≡ newId d → ⊥) → IsOrBefore (HappensBefore (grown d)) v b
+      → IsOrBefore (HappensBefore g) v b
   before-old n (inl q) = inl q
   before-old n (inr w) = inr (old-way (happens-sink f d) n w)
 

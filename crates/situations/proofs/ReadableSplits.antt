@@ -1,21 +1,15 @@
--- The stale values that could still be read, from graph to graph: where an order is the same, where two lists of events are
--- joined, and where a newest write is overwritten.
-use mathlib.Core.Path.{_≡_, refl, sym, ap, _∙_, subst, subst⁻¹}
-use mathlib.Core.Bool.{Bool, true, false, not}
-use mathlib.Core.List.{List, [], _∷_, _++_, List·Memᴰ as Member, List·Memᴰ·head, List·Memᴰ·tail, List·Memᴰ·not-nil}
-use mathlib.Core.List.{List·Memᴰ·append-cases, Memᴰ·append-left, Memᴰ·append-right, List·Memᴰ·eq-of-singleton}
-use mathlib.Core.Option.{some, Option·some-injective}
+-- What could still be read, from graph to graph where a location's order is the same, and after two lists of events.
+use mathlib.Core.Path.{_≡_, refl, sym, ap, _∙_, subst⁻¹}
+use mathlib.Core.Bool.{Bool}
+use mathlib.Core.List.{List, [], _∷_, _++_, List·Memᴰ as Member, List·Memᴰ·head, List·Memᴰ·tail}
+use mathlib.Core.List.{List·Memᴰ·append-cases, Memᴰ·append-left, Memᴰ·append-right}
 use mathlib.Core.Logic.{_⊎_, inl, inr, ⊎-elim, _↔_}
-use Prim.Native.Nat.{ℕ, _<_}
-use native.Mathlib.Omega.{arith}
-use Rattle.relations.specs.Closure.{IsOrBefore, Reaches, Precedes}
-use Rattle.relations.proofs.Lists.{precedes-after, precedes-members, split-of-snoc, same-last}
-use Rattle.program.specs.Thread.{Action, reads, writes, updates, writing}
-use Rattle.model.specs.Graph.{Id, Graph, order, eventAt, valueWritten, valueOf, isUpdate, eventOf}
+use Prim.Native.Nat.{ℕ}
+use Rattle.relations.specs.Closure.{Precedes}
+use Rattle.relations.proofs.Lists.{precedes-after}
+use Rattle.model.specs.Graph.{Id, Graph, order, eventAt, valueWritten, isUpdate}
 use Rattle.model.specs.Run.{startsWithUpdate}
 use Rattle.model.specs.Readable.{Readable}
-use Rattle.model.proofs.Growth.{Addition, newId, newEvent, newOrder, grown, new-there}
-use Rattle.model.proofs.WellFormed.{WellFormed}
 use Rattle.situations.proofs.ReadableLists.{splits-nest}
 use Rattle.situations.proofs.ReadableSink.{Seen}
 

@@ -1,5 +1,5 @@
--- What ends the search at a situation is the witness that it shows of the lowest thread, with that thread's smallest stale
--- value.
+-- What ends the search at a situation is the witness that it shows of the lowest thread, with that thread's smallest
+-- stale value.
 use mathlib.Core.Path.{_≡_, refl, sym, ap, _∙_, subst, subst⁻¹, subst₂}
 use mathlib.Core.Bool.{Bool, true, false, cond, true≢false}
 use mathlib.Core.Option.{Option, none, some}
@@ -24,7 +24,8 @@ use Rattle.situations.proofs.TestWitness.{WitnessOn}
 
 -- An outcome for the threads from one number up to another: nothing where they have no witness, else the first.
 pub data Outcome (p : Program) (q : Situation) (from upto : ℕ) : Option Ending → Type 0 where
-  nothing : ((t : ℕ) (k : Kind) (x u : ℕ) → from ≤ t → t < upto → WitnessOn p q t k x u → ⊥) → Outcome p q from upto none
+  nothing : ((t : ℕ) (k : Kind) (x u : ℕ) → from ≤ t → t < upto → WitnessOn p q t k x u → ⊥)
+      → Outcome p q from upto none
   first : (e : Ending) → from ≤ e .thread → e .thread < upto
       → WitnessOn p q (e .thread) (e .kind) (e .location) (e .value)
       → ((t : ℕ) (k : Kind) (x u : ℕ) → from ≤ t → t < upto → WitnessOn p q t k x u
@@ -195,7 +196,8 @@ threads-outcome : (p : Program) (q : Situation) (t count upto : ℕ) → t + cou
 unfolding endingFrom
 threads-outcome p q t zero upto e = nothing (λ t′ k x u a b w. omega arith)
 threads-outcome p q t (suc count) upto e =
-    outcomes-join (omega arith) (omega arith) (thread-outcome p q t) (threads-outcome p q (suc t) count upto (omega arith))
+    outcomes-join (omega arith) (omega arith) (thread-outcome p q t)
+    (threads-outcome p q (suc t) count upto (omega arith))
 
 pub ending-outcome : (p : Program) (q : Situation) → Outcome p q 0 (length (p .threads)) (endingOn p q)
 unfolding endingOn

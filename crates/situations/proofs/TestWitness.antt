@@ -1,12 +1,11 @@
 -- Witnesses read off a situation (Theorem 5.3 of source document 001): they are those of the state.
-use mathlib.Core.Path.{_≡_, refl, sym, ap, ap₂, _∙_, subst, subst⁻¹, subst₂}
-use mathlib.Core.Bool.{Bool, true, false, cond, decide}
-use mathlib.Core.List.{List, [], _∷_, _++_, map, List·Memᴰ as Member, Memᴰ·append-left, Memᴰ·append-right}
-use mathlib.Core.List.{List·Memᴰ·append-cases, List·Memᴰ·head, List·Memᴰ·tail, Memᴰ·of-map}
-use mathlib.Core.Option.{Option, none, some}
+use mathlib.Core.Path.{_≡_, refl, sym, ap, _∙_, subst, subst⁻¹, subst₂}
+use mathlib.Core.Bool.{Bool, true, false, cond}
+use mathlib.Core.List.{List, [], _∷_, _++_, List·Memᴰ as Member, Memᴰ·append-left, Memᴰ·append-right}
+use mathlib.Core.List.{List·Memᴰ·append-cases, List·Memᴰ·head, Memᴰ·of-map}
+use mathlib.Core.Option.{Option, some}
 use mathlib.Core.Logic.{_⊎_, inl, inr, ⊎-elim, _↔_}
 use Prim.Native.Nat.{ℕ, _<_}
-use native.Mathlib.Omega.{arith}
 use lib.ListN.{length, getD}
 use Rattle.relations.specs.Closure.{IsOrBefore, Reaches, Precedes}
 use Rattle.relations.proofs.Lists.{Snoc, empty-or-snoc, snoc-not-nil, regroup-snoc, precedes-after, row-in-range}
@@ -17,7 +16,7 @@ use Rattle.rules.specs.Situation.{Situation}
 use Rattle.rules.specs.Update.{rowOf}
 use Rattle.rules.specs.Test.{mayUse}
 use Rattle.model.specs.Graph.{Id, start, Graph, order, below, threadEvents, valueOf}
-use Rattle.model.specs.Order.{HappensBefore, ScOrder}
+use Rattle.model.specs.Order.{ScOrder}
 use Rattle.model.specs.Run.{State, threadOf, Access}
 use Rattle.model.specs.Readable.{newest, starts, Readable}
 use Rattle.model.specs.Witness.{Witness}
@@ -42,7 +41,8 @@ pub record WitnessOn (p : Program) (q : Situation) (t : ℕ) (kind : Kind) (x u 
   pub ofKind : kindOf (effect .action) ≡ kind
   pub value : u < p .values
   pub known : has (getD (q .knownToThread) t 0) x ≡ true
-  pub stale : mayUse (some effect) (getD (rowOf (q .readableByThread) t) x 0) (getD (rowOf (q .writableByThread) t) x 0) u
+  pub stale : mayUse (some effect) (getD (rowOf (q .readableByThread) t) x 0)
+      (getD (rowOf (q .writableByThread) t) x 0) u
       ≡ true
 
 -- What the sets of a situation say of its state.
@@ -66,7 +66,8 @@ module _ (p : Program) (s : State) (t x : ℕ) (ht : t < length (p .threads)) wh
 
   module _ (hx : x < p .locations) (u : ℕ) where
     set-says : (leave : Bool)
-        → (has (getD (rowOf (byThread (p .values) (p .locations) (length (p .threads)) (s .graph) leave) t) x 0) u ≡ true)
+        → (has (getD (rowOf (byThread (p .values) (p .locations) (length (p .threads)) (s .graph) leave) t) x 0) u
+        ≡ true)
         ↔ ((u < p .values) × Readable (s .graph) (threadEvents (s .graph) t) leave x u)
     unfolding readable
     set-says leave =
@@ -94,8 +95,8 @@ module _ (p : Program) (s : State) (t x : ℕ) (ht : t < length (p .threads)) wh
         go true = set-says true
         go false = set-says false
 
--- Where a stale write can be picked, the newest write is known to the thread exactly when it comes before one of its events:
--- it is none of them, and no starting write.
+-- Where a stale write can be picked, the newest write is none of the thread's events and no starting write: it is known
+-- to the thread exactly when it comes before one of its events.
 module _ {g : Graph} (f : WellFormed g) (t x : ℕ) (before : List Id) (w : Id) (after between : List Id) (v : Id)
     (split : order g x ≡ before ++ w ∷ after) (last : after ≡ between ++ v ∷ []) where
   pub stale-newest : newest g x ≡ v
