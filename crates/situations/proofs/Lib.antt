@@ -13,3 +13,16 @@ pub mod StepExact
 pub mod StepOn
 pub mod StartExact
 pub mod StepSchedule
+pub mod ReadableLists
+pub mod ReadableStarts
+pub mod ReadableNewest
+pub mod ReadableSink
+pub mod ReadableSplits
+pub mod ReadableOverwritten
+pub mod ReadableSets
+pub mod ReadableRows
+pub mod ReadableFamilies
+pub mod ReadableAfter
+pub mod TestWitness
+pub mod TestEnding
+pub mod TestNamed
