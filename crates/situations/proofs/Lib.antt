@@ -23,6 +23,7 @@ pub mod ReadableSets
 pub mod ReadableRows
 pub mod ReadableFamilies
 pub mod ReadableAfter
+pub mod ReadableExact
 pub mod TestWitness
 pub mod TestEnding
 pub mod TestNamed
