@@ -1,3 +1,4 @@
+pub mod AsWritten
 pub mod Lookup
 pub mod Growth
 pub mod WellFormed
