@@ -1,6 +1,8 @@
+pub mod Below
 pub mod Lookup
 pub mod Growth
 pub mod WellFormed
+pub mod StartsFirst
 pub mod Start
 pub mod Sinks
 pub mod NewEdges
