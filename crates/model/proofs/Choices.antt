@@ -8,8 +8,8 @@ use Prim.Native.Nat.{ℕ}
 use native.Mathlib.Omega.{arith}
 use native.Mathlib.Decide.{ℕ-discrete}
 use Rattle.relations.specs.Closure.{Reaches}
-use Rattle.relations.proofs.Decide.{dec-map, dec-and, dec-not, dec-none, dec-some, SplitAt, dec-split}
-use Rattle.relations.proofs.Lists.{Snoc, empty-or-snoc, snoc-not-nil, same-last}
+use Rattle.relations.proofs.Decide.{dec-map, dec-and, dec-not, dec-none, dec-some, SplitAt, dec-split, dec-implies}
+use Rattle.lists.proofs.Ends.{Snoc, empty-or-snoc, same-last, split-not-nil}
 use Rattle.program.specs.Program.{Program}
 use Rattle.program.specs.Thread.{Action, Kind, Read, Write, Update, kindOf, Effect, NextLine, ended, local, writing}
 use Rattle.program.specs.Thread.{access, nextLine}
@@ -19,10 +19,6 @@ use Rattle.model.specs.Run.{State, threadOf, startsWithUpdate, Allowed}
 use Rattle.model.specs.Witness.{Witness}
 use Rattle.model.specs.Readable.{Readable}
 use Rattle.model.proofs.Decidable.{dec-happens-reaches, dec-sc-order}
-
-pub dec-implies : {A B : Type 0} → Dec A → Dec B → Dec (A → B)
-dec-implies (yes a) d = dec-map (λ b x. b) (λ f. f a) d
-dec-implies (no n) d = yes (λ a. absurd (n a))
 
 dec-empty : (l : List Id) → Dec (l ≡ [])
 dec-empty [] = yes refl
@@ -102,7 +98,7 @@ module _ (p : Program) (s : State) (t : ℕ) (kind : Kind) (x u : ℕ) where
   dec-known after = go (empty-or-snoc after)
     where
       go : (after ≡ []) ⊎ Snoc after → Dec (Known after)
-      go (inl q) = no (λ k. snoc-not-nil (k .between) (k .newest) (sym q ∙ k .last))
+      go (inl q) = no (λ k. split-not-nil (k .between) (k .newest) [] (sym q ∙ k .last))
       go (inr r) =
           dec-map
           (λ h. record

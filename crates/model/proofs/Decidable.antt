@@ -1,6 +1,6 @@
 -- Happens-before and SC order are decided on every graph.
-use mathlib.Core.Path.{_≡_, refl, sym, ap, _∙_, subst, subst⁻¹}
-use mathlib.Core.List.{List, [], _++_, map, flatten, List·Memᴰ as Member, Memᴰ·append-left, Memᴰ·append-right, Memᴰ·map}
+use mathlib.Core.Path.{_≡_, refl, ap, _∙_, subst, subst⁻¹}
+use mathlib.Core.List.{List, [], _++_, map, flatten, List·Memᴰ as Member, Memᴰ·append-left, Memᴰ·append-right}
 use mathlib.Core.Option.{Option, none, some, discrete}
 use mathlib.Core.Logic.{_⊎_, inl, inr, ⊎-elim}
 use Prim.Native.Nat.{ℕ, _<_}
@@ -10,14 +10,16 @@ use lib.ListN.{length}
 use Rattle.relations.specs.Closure.{Precedes, Reaches}
 use Rattle.relations.proofs.Decide.{dec-map, dec-or, dec-and, dec-not, dec-some, dec-precedes, dec-closure, dec-reaches}
 use Rattle.relations.proofs.Laws.{last-edge}
-use Rattle.relations.proofs.Lists.{precedes-members, member-of-flat, member-row, place-in-range, member-in-range}
-use Rattle.relations.proofs.Lists.{filled-row-in-range}
+use Rattle.relations.proofs.Precedes.{precedes-members}
+use Rattle.lists.proofs.Pieces.{member-of-flat}
+use Rattle.lists.proofs.Places.{member-row, place-in-range, member-in-range}
 use Rattle.model.specs.Graph.{Id, start, event, Event, Graph, eventsOf, order, eventAt, below, threadEvents}
 use Rattle.model.specs.Graph.{sourceOf}
 use Rattle.model.specs.Order.{ThreadOrder, starting, within, ReadsFrom, ModificationOrder, at, FromRead}
 use Rattle.model.specs.Order.{HappensEdge, threadOrder, readsFrom, HappensBefore, ScEdge, happensBefore}
 use Rattle.model.specs.Order.{modificationOrder, fromRead, ScOrder}
-use Rattle.model.proofs.Lookup.{member-below, own-event, reading-event, start-is}
+use Rattle.model.proofs.Lookup.{reading-event, own-event-listed, start-reads-nothing}
+use Rattle.model.proofs.Below.{member-below}
 
 pub id-discrete : Discrete Id
 id-discrete (start x) (start y) = dec-map (ap start) (λ q. cc) (ℕ-discrete x y)
@@ -72,10 +74,7 @@ module _ (g : Graph) where
 
   event-listed : (t i : ℕ) → i < length (eventsOf g t) → Member (event t i) vertices
   unfolding vertices
-  event-listed t i h =
-      Memᴰ·append-left (flatten (g .orders))
-      (member-of-flat (map (threadEvents g) (below (length (g .events)))) (own-event g t i h)
-      (Memᴰ·map (threadEvents g) (member-below (length (g .events)) (filled-row-in-range (g .events) t h))))
+  event-listed t i h = Memᴰ·append-left (flatten (g .orders)) (own-event-listed g t i h)
 
   ordered-listed : (x : ℕ) {a : Id} → Member a (order g x) → Member a vertices
   unfolding vertices
@@ -84,10 +83,8 @@ module _ (g : Graph) where
       (member-of-flat (g .orders) m (member-row (g .orders) x [] (member-in-range (g .orders) x m)))
 
   reader-listed : (a : Id) {v : Event} {w : Id} → eventAt g a ≡ some v → sourceOf (some v) ≡ some w → Member a vertices
-  unfolding eventAt sourceOf
-  reader-listed (start y) {v} h k =
-      let q = sym (ap (λ e. sourceOf (some e)) (start-is g y h .0)) ∙ k in
-      absurd (let z : _≡_ {A = ℕ} 0 1 = cc q in omega arith)
+  unfolding eventAt
+  reader-listed (start y) h k = absurd (start-reads-nothing g y (ap sourceOf h ∙ k))
   reader-listed (event t i) h k = event-listed t i (place-in-range (eventsOf g t) i h)
 
   happens-listed : (a b : Id) → HappensEdge g a b → Member b vertices

@@ -1,25 +1,28 @@
 -- A graph that grows by one access, whichever write it picks: what is kept, and what is new.
 use mathlib.Core.Path.{_≡_, refl, sym, ap, _∙_, subst, subst⁻¹}
-use mathlib.Core.Bool.{true, false}
-use mathlib.Core.List.{List, [], _∷_, _++_, List·Memᴰ as Member}
+use mathlib.Core.Bool.{true, false, true≢false}
+use mathlib.Core.List.{List, [], _∷_, _++_, List·Memᴰ as Member, List·Memᴰ·append-cases, List·Memᴰ·eq-of-singleton}
 use mathlib.Core.Option.{some}
-use mathlib.Core.Logic.{_⊎_, inl, inr, ⊎-elim}
-use Prim.Native.Nat.{ℕ, _<_}
+use mathlib.Core.Logic.{_⊎_, inl, inr, ⊎-elim, _≢_}
+use Prim.Native.Nat.{ℕ, suc, _<_}
 use native.Mathlib.Omega.{arith}
+use native.Mathlib.Decide.{ℕ-discrete}
 use lib.ListN.{length}
+use lib.Seq.{append-snoc}
+use Rattle.lists.proofs.Places.{member-in-range}
+use Rattle.lists.proofs.Ends.{member-inserted, member-put-in, member-old-or-put-in}
 use Rattle.relations.specs.Closure.{Precedes}
 use Rattle.relations.proofs.Laws.{closure-grows}
-use Rattle.relations.proofs.Lists.{row-in-range, regroup-after, member-inserted, member-old-or-put-in}
-use Rattle.relations.proofs.Lists.{precedes-inserted}
-use Rattle.relations.proofs.Lists.{precedes-old-or-put-in, member-put-in}
+use Rattle.relations.proofs.Precedes.{precedes-inserted, precedes-old-or-put-in}
 use Rattle.program.specs.Thread.{Action, reads, writes, updates, writing}
-use Rattle.model.specs.Graph.{Id, Event, Graph, eventsOf, order, eventAt, sourceOf, valueOf}
-use Rattle.model.specs.Graph.{nextId, eventOf, directlyAfter, extend}
+use Rattle.model.specs.Graph.{Id, Event, Graph, eventsOf, order, eventAt, threadEvents, sourceOf, valueOf, nextId}
+use Rattle.model.specs.Graph.{eventOf, directlyAfter, extend}
 use Rattle.model.specs.Order.{ThreadOrder, starting, within, ReadsFrom, ModificationOrder, at, FromRead}
 use Rattle.model.specs.Order.{HappensEdge, threadOrder, readsFrom, HappensBefore, ScEdge, happensBefore}
 use Rattle.model.specs.Order.{modificationOrder, fromRead, ScOrder}
-use Rattle.model.proofs.Lookup.{same-locations, more-events, event-kept, new-event, event-old-or-new}
-use Rattle.model.proofs.Lookup.{new-order, orders-after, reading-event}
+use Rattle.model.proofs.Lookup.{own-event, place-of-own, other-threads-events, other-order, new-order}
+use Rattle.model.proofs.Lookup.{same-locations, one-more-event, own-ids-after, more-events, event-kept}
+use Rattle.model.proofs.Lookup.{new-event, event-old-or-new, reading-event}
 
 -- What an access adds to a graph.
 pub record Addition (g : Graph) : Type 0 where
@@ -36,7 +39,7 @@ pub in-order : {g : Graph} (d : Addition g) → Member (d .picked) (order g (d .
 in-order d = subst⁻¹ (Member (d .picked)) (d .split) (member-put-in (d .before) (d .picked) (d .after))
 
 pub hasLocation : {g : Graph} (d : Addition g) → d .location < length (g .orders)
-hasLocation {g} d = row-in-range (g .orders) (d .location) (d .before) (d .picked) (d .after) (d .split)
+hasLocation {g} d = member-in-range (g .orders) (d .location) (in-order d)
 
 abbrev pub newId : {g : Graph} → Addition g → Id
 newId {g} d = nextId g (d .thread)
@@ -79,34 +82,87 @@ pub data OrderAfter {g : Graph} (d : Addition g) (y : ℕ) : Type 0 where
       → order (grown d) y ≡ upToPicked d ++ newId d ∷ d .after → OrderAfter d y
 
 module _ {g : Graph} (d : Addition g) where
-  pub order-here : order (grown d) (d .location) ≡ newOrder d
+  pub locations-stay : length (grown d .orders) ≡ length (g .orders)
+  locations-stay = same-locations g (d .thread) (newEvent d) (d .location) (newOrder d)
+
+  -- The ids of the threads' events.
+  pub one-event-more : length (eventsOf (grown d) (d .thread)) ≡ suc (length (eventsOf g (d .thread)))
+  one-event-more = one-more-event g (d .thread) (newEvent d) (d .location) (newOrder d) (d .hasThread)
+
+  pub own-ids-grow : threadEvents (grown d) (d .thread) ≡ threadEvents g (d .thread) ++ newId d ∷ []
+  own-ids-grow = own-ids-after g (d .thread) (newEvent d) (d .location) (newOrder d) (d .hasThread)
+
+  pub others-ids-stay : (u : ℕ) → u ≢ d .thread → threadEvents (grown d) u ≡ threadEvents g u
+  others-ids-stay = other-threads-events g (d .thread) (newEvent d) (d .location) (newOrder d)
+
+  more : (u i : ℕ) → i < length (eventsOf g u) → i < length (eventsOf (grown d) u)
+  more = more-events g (d .thread) (newEvent d) (d .location) (newOrder d) (d .hasThread)
+
+  pub own-id-stays : (u : ℕ) {a : Id} → Member a (threadEvents g u) → Member a (threadEvents (grown d) u)
+  own-id-stays u m =
+      let r = place-of-own g u m in
+      subst⁻¹ (λ a. Member a (threadEvents (grown d) u)) (r .2) (own-event (grown d) u (r .0) (more u (r .0) (r .1)))
+
+  pub new-is-own : Member (newId d) (threadEvents (grown d) (d .thread))
+  new-is-own = subst⁻¹ (Member (newId d)) own-ids-grow (member-put-in (threadEvents g (d .thread)) (newId d) [])
+
+  pub own-old-or-new : {a : Id} → Member a (threadEvents (grown d) (d .thread))
+      → (a ≡ newId d) ⊎ Member a (threadEvents g (d .thread))
+  own-old-or-new {a} m =
+      ⊎-elim inr (λ h. inl (List·Memᴰ·eq-of-singleton h))
+      (List·Memᴰ·append-cases (threadEvents g (d .thread)) (subst (Member a) own-ids-grow m))
+
+  -- The orders.
+  pub order-elsewhere : (y : ℕ) → y ≢ d .location → order (grown d) y ≡ order g y
+  order-elsewhere = other-order g (d .thread) (newEvent d) (d .location) (newOrder d)
+
+  order-here : order (grown d) (d .location) ≡ newOrder d
   order-here = new-order g (d .thread) (newEvent d) (d .location) (newOrder d) (hasLocation d)
 
   pub old-order : order g (d .location) ≡ upToPicked d ++ d .after
-  old-order = d .split ∙ sym (regroup-after (d .before) (d .picked) (d .after))
+  old-order = d .split ∙ sym (append-snoc (d .before) (d .picked) (d .after))
 
-  pub order-written : writing (d .action) ≡ true → newOrder d ≡ upToPicked d ++ newId d ∷ d .after
-  order-written w =
-      ap (λ l. d .before ++ d .picked ∷ l) (written (d .action) (newId d) (d .after) w)
-      ∙ sym (regroup-after (d .before) (d .picked) (newId d ∷ d .after))
+  pub order-put-in : writing (d .action) ≡ true → order (grown d) (d .location) ≡ upToPicked d ++ newId d ∷ d .after
+  order-put-in w =
+      order-here ∙ ap (λ l. d .before ++ d .picked ∷ l) (written (d .action) (newId d) (d .after) w)
+      ∙ sym (append-snoc (d .before) (d .picked) (newId d ∷ d .after))
 
-  pub order-unwritten : writing (d .action) ≡ false → newOrder d ≡ order g (d .location)
+  order-unwritten : writing (d .action) ≡ false → order (grown d) (d .location) ≡ order g (d .location)
   order-unwritten w =
-      ap (λ l. d .before ++ d .picked ∷ l) (not-written (d .action) (newId d) (d .after) w) ∙ sym (d .split)
+      order-here ∙ ap (λ l. d .before ++ d .picked ∷ l) (not-written (d .action) (newId d) (d .after) w)
+      ∙ sym (d .split)
+
+  pub order-after : (y : ℕ) → OrderAfter d y
+  order-after y = by-location (ℕ-discrete y (d .location)) (writing-cases (d .action))
+    where
+      by-location : Dec (y ≡ d .location) → (writing (d .action) ≡ true) ⊎ (writing (d .action) ≡ false)
+          → OrderAfter d y
+      by-location (no n) w = unchanged (order-elsewhere y n)
+      by-location (yes q) (inl w) =
+          putIn q w (ap (order g) q ∙ old-order) (ap (order (grown d)) q ∙ order-put-in w)
+      by-location (yes q) (inr w) =
+          unchanged (ap (order (grown d)) q ∙ order-unwritten w ∙ ap (order g) (sym q))
+
+  pub order-kept : writing (d .action) ≡ false → (y : ℕ) → order (grown d) y ≡ order g y
+  order-kept w y = go (order-after y)
+    where
+      go : OrderAfter d y → order (grown d) y ≡ order g y
+      go (unchanged o) = o
+      go (putIn q k o n) = absurd (true≢false (sym k ∙ w))
 
   pub new-listed : writing (d .action) ≡ true → Member (newId d) (order (grown d) (d .location))
   new-listed w =
-      subst⁻¹ (Member (newId d)) (order-here ∙ order-written w) (member-put-in (upToPicked d) (newId d) (d .after))
+      subst⁻¹ (Member (newId d)) (order-put-in w) (member-put-in (upToPicked d) (newId d) (d .after))
 
-  pub order-after : (y : ℕ) → OrderAfter d y
-  order-after y =
-      ⊎-elim (λ p. unchanged (p .1)) (λ p. here (p .0) (p .1) (writing-cases (d .action)))
-      (orders-after g (d .thread) (newEvent d) (d .location) (newOrder d) y (hasLocation d))
-    where
-      here : y ≡ d .location → order (grown d) y ≡ newOrder d
-          → (writing (d .action) ≡ true) ⊎ (writing (d .action) ≡ false) → OrderAfter d y
-      here q o (inl w) = putIn q w (ap (order g) q ∙ old-order) (o ∙ order-written w)
-      here q o (inr w) = unchanged (o ∙ order-unwritten w ∙ ap (order g) (sym q))
+  -- Where the newest write is picked, it stands last, and the new one after it.
+  module _ (newest : d .after ≡ []) where
+    pub picked-last : order g (d .location) ≡ upToPicked d
+    picked-last = d .split ∙ ap (λ l. d .before ++ d .picked ∷ l) newest
+
+    pub order-grown : writing (d .action) ≡ true
+        → order (grown d) (d .location) ≡ order g (d .location) ++ newId d ∷ []
+    order-grown w =
+        order-put-in w ∙ ap (λ l. upToPicked d ++ newId d ∷ l) newest ∙ ap (λ l. l ++ newId d ∷ []) (sym picked-last)
 
   pub member-stays : {a : Id} (y : ℕ) → Member a (order g y) → Member a (order (grown d) y)
   member-stays {a} y m = go (order-after y)
@@ -162,13 +218,8 @@ module _ {g : Graph} (d : Addition g) where
 
   pub thread-order-grows : {a b : Id} → ThreadOrder g a b → ThreadOrder (grown d) a b
   thread-order-grows (starting {x = x} {t = t} {i = i} l h) =
-      starting (subst⁻¹ (λ n. x < n) (same-locations g (d .thread) (newEvent d) (d .location) (newOrder d)) l)
-      (more t i h)
-    where
-      more : (t i : ℕ) → i < length (eventsOf g t) → i < length (eventsOf (grown d) t)
-      more = more-events g (d .thread) (newEvent d) (d .location) (newOrder d) (d .hasThread)
-  thread-order-grows (within {t = t} {i = i} {j = j} l h) =
-      within l (more-events g (d .thread) (newEvent d) (d .location) (newOrder d) (d .hasThread) t j h)
+      starting (subst⁻¹ (λ n. x < n) locations-stay l) (more t i h)
+  thread-order-grows (within {t = t} {i = i} {j = j} l h) = within l (more t j h)
 
   pub reads-from-grows : (w r : Id) → ReadsFrom g w r → ReadsFrom (grown d) w r
   reads-from-grows w r h = let e = reading-event g r h in ap sourceOf (event-stays r (e .1)) ∙ e .2

@@ -1,7 +1,9 @@
 pub mod AsWritten
+pub mod Below
 pub mod Lookup
 pub mod Growth
 pub mod WellFormed
+pub mod StartsFirst
 pub mod Start
 pub mod Sinks
 pub mod NewEdges

@@ -1,37 +1,23 @@
--- What is found in a graph that has one more event.
+-- What is found in a graph: the ids of a thread's events, starting writes, what an id reads from; and all of it in a
+-- graph that has one more event.
 use mathlib.Core.Path.{_≡_, refl, sym, ap, _∙_, subst, subst⁻¹}
 use mathlib.Core.Bool.{Bool, true, false, cond}
-use mathlib.Core.List.{List, [], _∷_, _++_, map, List·Memᴰ as Member, List·Memᴰ·head, Memᴰ·append-left}
-use mathlib.Core.List.{Memᴰ·append-right, List·Memᴰ·append-cases, List·Memᴰ·eq-of-singleton, List·Memᴰ·not-nil}
-use mathlib.Core.List.{Memᴰ·map, Memᴰ·of-map}
+use mathlib.Core.List.{List, [], _∷_, _++_, map, map-append, flatten, List·Memᴰ as Member, Memᴰ·map, Memᴰ·of-map}
 use mathlib.Core.Option.{Option, none, some}
 use mathlib.Core.Logic.{_⊎_, inl, inr, ⊎-elim, _≢_}
-use Prim.Native.Nat.{ℕ, zero, suc, _<_}
+use Prim.Native.Nat.{ℕ, suc, _<_}
 use native.Mathlib.Omega.{arith}
-use native.Mathlib.Decide.{ℕ-discrete, decLt}
+use native.Mathlib.Decide.{ℕ-discrete}
 use lib.Dec.{ltb}
 use borrow.Author.Tests.{lt-ltb, ltb-true}
 use lib.ListN.{length, getElem?, length-set}
 use lib.Seq.{getD-set-same, getD-set-other}
-use Rattle.relations.proofs.Lists.{place-kept, place-of-last, place-old-or-last, length-of-snoc, place-in-range}
+use Rattle.lists.proofs.Places.{place-kept, place-of-split, place-old-or-last, place-in-range, filled-row-in-range}
+use Rattle.lists.proofs.Ends.{length-of-snoc}
+use Rattle.lists.proofs.Pieces.{member-of-flat}
 use Rattle.model.specs.Graph.{Id, start, event, Event, writeE, Graph, eventsOf, order, eventAt, below}
 use Rattle.model.specs.Graph.{threadEvents, sourceOf, nextId, extend}
-
-pub member-below : {i : ℕ} (n : ℕ) → i < n → Member i (below n)
-unfolding below
-member-below zero h = absurd (omega arith)
-member-below {i} (suc n) h = go (λ l. member-below n l) (decLt i n)
-  where
-    go : (i < n → Member i (below n)) → Dec (i < n) → Member i (below (suc n))
-    go rest (yes l) = Memᴰ·append-left (n ∷ []) (rest l)
-    go rest (no k) = Memᴰ·append-right (below n) (List·Memᴰ·head (omega arith))
-
-pub below-member : {i : ℕ} (n : ℕ) → Member i (below n) → i < n
-unfolding below
-below-member zero m = absurd (List·Memᴰ·not-nil m)
-below-member {i} (suc n) m =
-    ⊎-elim (λ h. let l : i < n = below-member n h in omega arith)
-    (λ h. let q : i ≡ n = List·Memᴰ·eq-of-singleton h in omega arith) (List·Memᴰ·append-cases (below n) m)
+use Rattle.model.proofs.Below.{member-below, below-member}
 
 -- The ids of a thread's events are those with a place below their number.
 pub own-event : (g : Graph) (t i : ℕ) → i < length (eventsOf g t) → Member (event t i) (threadEvents g t)
@@ -44,6 +30,13 @@ unfolding threadEvents
 place-of-own g t m =
     let r = Memᴰ·of-map (event t) (below (length (eventsOf g t))) m in
     (r .0, below-member (length (eventsOf g t)) (r .1), sym (r .2))
+
+-- All of them stand in the list of all threads' events.
+pub own-event-listed : (g : Graph) (t i : ℕ) → i < length (eventsOf g t)
+    → Member (event t i) (flatten (map (threadEvents g) (below (length (g .events)))))
+own-event-listed g t i h =
+    member-of-flat (map (threadEvents g) (below (length (g .events)))) (own-event g t i h)
+    (Memᴰ·map (threadEvents g) (member-below (length (g .events)) (filled-row-in-range (g .events) t h)))
 
 module _ (g : Graph) (t : ℕ) (e : Event) (x : ℕ) (l : List Id) where
   pub other-events : (u : ℕ) → u ≢ t → eventsOf (extend g t e x l) u ≡ eventsOf g u
@@ -86,16 +79,16 @@ module _ (g : Graph) (t : ℕ) (e : Event) (x : ℕ) (l : List Id) where
       go (yes q) = inr (q, subst⁻¹ (λ v. eventsOf (extend g t e x l) v ≡ eventsOf g v ++ e ∷ []) q (own-events h))
       go (no n) = inl (n, other-events u n)
 
-  pub orders-after : (y : ℕ) → x < length (g .orders)
-      → ((y ≢ x) × (order (extend g t e x l) y ≡ order g y)) ⊎ ((y ≡ x) × (order (extend g t e x l) y ≡ l))
-  orders-after y h = go (ℕ-discrete y x)
-    where
-      go : Dec (y ≡ x)
-          → ((y ≢ x) × (order (extend g t e x l) y ≡ order g y)) ⊎ ((y ≡ x) × (order (extend g t e x l) y ≡ l))
-      go (yes q) = inr (q, subst⁻¹ (λ z. order (extend g t e x l) z ≡ l) q (new-order h))
-      go (no n) = inl (n, other-order y n)
-
   module _ (h : t < length (g .events)) where
+    pub one-more-event : length (eventsOf (extend g t e x l) t) ≡ suc (length (eventsOf g t))
+    one-more-event = ap length (own-events h) ∙ length-of-snoc (eventsOf g t) e
+
+    pub own-ids-after : threadEvents (extend g t e x l) t ≡ threadEvents g t ++ nextId g t ∷ []
+    unfolding threadEvents below
+    own-ids-after =
+        ap (λ n. map (event t) (below n)) one-more-event
+        ∙ map-append (event t) (below (length (eventsOf g t))) (length (eventsOf g t) ∷ [])
+
     pub more-events : (u i : ℕ) → i < length (eventsOf g u) → i < length (eventsOf (extend g t e x l) u)
     more-events u i k =
         ⊎-elim (λ p. subst⁻¹ (λ es. i < length es) (p .1) k)
@@ -116,7 +109,7 @@ module _ (g : Graph) (t : ℕ) (e : Event) (x : ℕ) (l : List Id) where
     pub new-event : eventAt (extend g t e x l) (nextId g t) ≡ some e
     unfolding eventAt
     new-event =
-        subst⁻¹ (λ es. getElem? es (length (eventsOf g t)) ≡ some e) (own-events h) (place-of-last (eventsOf g t) e)
+        subst⁻¹ (λ es. getElem? es (length (eventsOf g t)) ≡ some e) (own-events h) (place-of-split (eventsOf g t) e [])
 
     pub event-old-or-new : (a : Id) {v : Event} → eventAt (extend g t e x l) a ≡ some v
         → ((a ≡ nextId g t) × (v ≡ e)) ⊎ (eventAt g a ≡ some v)
@@ -133,12 +126,6 @@ module _ (g : Graph) (t : ℕ) (e : Event) (x : ℕ) (l : List Id) where
             ⊎-elim (λ z. inl ((λ j. event (q j) ((z .0 ∙ ap (λ w. length (eventsOf g w)) q) j)), z .1)) inr
             (place-old-or-last (eventsOf g u) e i r)
 
-    pub new-own-event : Member (nextId g t) (threadEvents (extend g t e x l) t)
-    new-own-event =
-        own-event (extend g t e x l) t (length (eventsOf g t))
-        (subst⁻¹ (λ es. length (eventsOf g t) < length es) (own-events h)
-        (let q = length-of-snoc (eventsOf g t) e in omega arith))
-
 -- The next id of a thread is no event yet.
 pub present-not-next : (g : Graph) (t : ℕ) (a : Id) {v : Event} → eventAt g a ≡ some v → a ≡ nextId g t → ⊥
 unfolding eventAt
@@ -146,6 +133,13 @@ present-not-next g t a {v} k q =
     let h : getElem? (eventsOf g t) (length (eventsOf g t)) ≡ some v = subst (λ b. eventAt g b ≡ some v) q k in
     let r = place-in-range (eventsOf g t) (length (eventsOf g t)) h in
     omega arith
+
+pub own-not-next : (g : Graph) (t u : ℕ) (a : Id) → Member a (threadEvents g u) → a ≡ nextId g t → ⊥
+own-not-next g t u a m q =
+    let r = place-of-own g u m in
+    let q₁ : u ≡ t = cc (r .2) in
+    let q₂ : r .0 ≡ length (eventsOf g t) = cc (r .2) in
+    omega (arith, r .1, ap (λ v. length (eventsOf g v)) q₁)
 
 -- An id with a source is that of an event.
 pub reading-event : (g : Graph) (r : Id) {w : Id} → sourceOf (eventAt g r) ≡ some w
@@ -172,3 +166,11 @@ start-is g y {v} h = go (ltb y (length (g .orders))) refl h
         → (v ≡ writeE y 0) × (y < length (g .orders))
     go true q k = ((cc), ltb-true y (length (g .orders)) q)
     go false q k = absurd (let z : _≡_ {A = ℕ} 0 1 = cc in omega arith)
+
+pub start-reads-nothing : (g : Graph) (y : ℕ) {w : Id} → sourceOf (eventAt g (start y)) ≡ some w → ⊥
+unfolding sourceOf
+start-reads-nothing g y h =
+    let e = reading-event g (start y) h in
+    let q = sym (ap (λ v. sourceOf (some v)) (start-is g y (e .1) .0)) ∙ e .2 in
+    let z : _≡_ {A = ℕ} 0 1 = cc q in
+    omega arith

@@ -7,18 +7,18 @@ use native.Mathlib.Omega.{arith}
 use native.Mathlib.Decide.{decLt}
 use lib.ListN.{length, getElem?, set, length-set, length-map, List·getD-eq-default}
 use Rattle.relations.specs.Closure.{further, Precedes}
-use Rattle.relations.proofs.Lists.{same-last, one-precedes}
+use Rattle.lists.proofs.Ends.{same-last}
+use Rattle.relations.proofs.Precedes.{one-precedes}
 use mathlib.Core.Logic.{⊎-elim}
 use Rattle.program.specs.Program.{Program, Line}
-use Rattle.program.specs.Thread.{ThreadState, startThread, Action, Effect, NextLine, ended, access, doesAt}
-use Rattle.program.specs.Thread.{nextLine}
+use Rattle.program.specs.Thread.{ThreadState, startThread, Action, Effect, NextLine, ended, access, doesAt, nextLine}
 use Rattle.model.specs.Graph.{Id, Graph, order, valueOf, nextId, eventOf, directlyAfter, extend}
 use Rattle.model.specs.Order.{at, modificationOrder, ScOrder}
 use Rattle.model.specs.Run.{State, startState, threadOf, Access, graphAfter, stateAfter, afterLocal, Rule}
-use Rattle.model.specs.Run.{Allowed, startsWithUpdate}
-use Rattle.model.specs.Run.{Step, localStep, accessStep, Run, noStep, andStep, ScStep, RaStep, ScRun, RaRun}
-use Rattle.model.proofs.Lookup.{same-threads, same-locations}
-use Rattle.model.proofs.Growth.{Addition, newEvent, newOrder, grown}
+use Rattle.model.specs.Run.{Allowed, startsWithUpdate, Step, localStep, accessStep, Run, noStep, andStep, ScStep}
+use Rattle.model.specs.Run.{RaStep, ScRun, RaRun}
+use Rattle.model.proofs.Lookup.{same-threads}
+use Rattle.model.proofs.Growth.{Addition, newEvent, newOrder, grown, hasLocation, locations-stay}
 use Rattle.model.proofs.WellFormed.{WellFormed, well-formed-grows}
 use Rattle.model.proofs.Start.{start-locations, start-threads, start-well-formed, start-acyclic}
 use Rattle.model.proofs.Sinks.{acyclic-grows}
@@ -40,6 +40,9 @@ has-thread p t q n = go (decLt t (length (p .threads)))
 pub access-not-ended : {l : NextLine} {x : ℕ} {f : ℕ → Option Effect} → l ≡ access x f → l ≡ ended → ⊥
 access-not-ended q r = let z : _≡_ {A = ℕ} 0 1 = cc in omega arith
 
+pub access-has-thread : {p : Program} {s : State} {t : ℕ} → Access p s t → t < length (p .threads)
+access-has-thread {p} {s} {t} a = has-thread p t (threadOf s t) (access-not-ended (a .line))
+
 -- A state has a thread state and events for each thread and an order for each location, and its graph is well formed.
 pub record Good (p : Program) (s : State) : Type 0 where
   pub threads : length (s .threads) ≡ length (p .threads)
@@ -58,13 +61,16 @@ additionOf {p} {s} {t} f a =
       picked = a .picked;
       after = a .after;
       split = a .split;
-      hasThread = subst⁻¹ (λ n. t < n) (f .events) (has-thread p t (threadOf s t) (access-not-ended (a .line)));
+      hasThread = subst⁻¹ (λ n. t < n) (f .events) (access-has-thread a);
     }
 
 pub graph-grown : {p : Program} {s : State} {t : ℕ} (f : Good p s) (a : Access p s t)
     → graphAfter a ≡ grown (additionOf f a)
 unfolding graphAfter
 graph-grown f a = refl
+
+pub access-has-location : {p : Program} {s : State} {t : ℕ} → Good p s → (a : Access p s t) → a .location < p .locations
+access-has-location f a = subst (λ n. a .location < n) (f .locations) (hasLocation (additionOf f a))
 
 pub start-good : (p : Program) → Good p (startState p)
 unfolding startState
@@ -85,9 +91,7 @@ access-good {s = s} {t = t} f a =
       events =
           ap (λ g. length (g .events)) (graph-grown f a) ∙ same-threads (s .graph) (d .thread) (newEvent d)
           (d .location) (newOrder d) ∙ f .events;
-      locations =
-          ap (λ g. length (g .orders)) (graph-grown f a) ∙ same-locations (s .graph) (d .thread) (newEvent d)
-          (d .location) (newOrder d) ∙ f .locations;
+      locations = ap (λ g. length (g .orders)) (graph-grown f a) ∙ locations-stay d ∙ f .locations;
       wellFormed = subst⁻¹ WellFormed (graph-grown f a) (well-formed-grows (f .wellFormed) d);
     }
 

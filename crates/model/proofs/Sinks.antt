@@ -9,15 +9,17 @@ use native.Mathlib.Decide.{decLt}
 use lib.ListN.{length}
 use Rattle.relations.specs.Closure.{Precedes}
 use Rattle.relations.proofs.Sink.{Sink, closure-sink, sink-keeps-acyclic}
-use Rattle.relations.proofs.Lists.{length-of-snoc, precedes-members, precedes-old-or-put-in, precedes-put-in}
+use Rattle.lists.proofs.Ends.{length-of-snoc}
+use Rattle.relations.proofs.Precedes.{precedes-members, precedes-old-or-put-in, precedes-put-in}
 use Rattle.model.specs.Graph.{Id, event, Event, Graph, eventsOf, order, eventAt, sourceOf, locationOf}
 use Rattle.model.specs.Order.{ThreadOrder, starting, within, ReadsFrom, ModificationOrder, at, FromRead}
 use Rattle.model.specs.Order.{HappensEdge, threadOrder, readsFrom, ScEdge, happensBefore, modificationOrder}
 use Rattle.model.specs.Order.{fromRead, ScOrder}
-use Rattle.model.proofs.Lookup.{events-after, own-events, same-locations, reading-event}
+use Rattle.model.proofs.Lookup.{events-after, reading-event}
 use Rattle.model.proofs.Growth.{Addition, in-order, newId, newEvent, newOrder, grown, precedes-old-or-new}
-use Rattle.model.proofs.Growth.{happens-edge-grows, sc-edge-grows, new-there, there-old-or-new}
-use Rattle.model.proofs.WellFormed.{WellFormed, listed-not-next, new-source}
+use Rattle.model.proofs.Growth.{happens-edge-grows, sc-edge-grows, new-there, there-old-or-new, locations-stay}
+use Rattle.model.proofs.Growth.{one-event-more, picked-last}
+use Rattle.model.proofs.WellFormed.{WellFormed, listed-not-next, new-source, new-unlisted}
 
 -- A write stands in the order of one location only.
 pub one-location : {g : Graph} → WellFormed g → (a : Id) (x y : ℕ) → Member a (order g x) → Member a (order g y) → x ≡ y
@@ -58,8 +60,7 @@ module _ {g : Graph} (f : WellFormed g) (d : Addition g) where
       ⊎-elim
       (λ n. listed-not-next f (d .thread) (d .location) (d .picked) (in-order d)
       (sym (new-source (d .action) (d .location) _ (d .picked) (ap (λ v. sourceOf (some v)) (sym (n .1)) ∙ e .2))))
-      (λ o. listed-not-next f (d .thread) (locationOf (e .0)) (newId d)
-      (f .sources-listed r (newId d) (e .0) o (e .2)) refl)
+      (λ o. new-unlisted f d (locationOf (e .0)) (f .sources-listed r (newId d) (e .0) o (e .2)))
       (there-old-or-new d r (e .1))
 
   last-in-thread : {a b : Id} → ThreadOrder (grown d) a b → a ≡ newId d → ⊥
@@ -68,18 +69,12 @@ module _ {g : Graph} (f : WellFormed g) (d : Addition g) where
       let q₁ : t ≡ d .thread = cc in
       let q₂ : i ≡ length (eventsOf g (d .thread)) = cc in
       let k : j < length (eventsOf (grown d) (d .thread)) = subst (λ u. j < length (eventsOf (grown d) u)) q₁ h in
-      omega (
-        arith,
-        ap length (own-events g (d .thread) (newEvent d) (d .location) (newOrder d) (d .hasThread)),
-        length-of-snoc (eventsOf g (d .thread)) (newEvent d),
-      )
+      omega (arith, one-event-more d)
 
   happens-new : (a b : Id) → HappensEdge (grown d) a b → (b ≡ newId d) ⊎ HappensEdge g a b
   happens-new a b (threadOrder (starting {x = x} {t = t} {i = i} l h)) =
-      ⊎-elim inl (λ k. inr (threadOrder (starting (subst (λ n. x < n) same l) k))) (place-old-or-new t i h)
-    where
-      same : length (grown d .orders) ≡ length (g .orders)
-      same = same-locations g (d .thread) (newEvent d) (d .location) (newOrder d)
+      ⊎-elim inl (λ k. inr (threadOrder (starting (subst (λ n. x < n) (locations-stay d) l) k)))
+      (place-old-or-new t i h)
   happens-new a b (threadOrder (within {t = t} {i = i} {j = j} l h)) =
       ⊎-elim inl (λ k. inr (threadOrder (within l k))) (place-old-or-new t j h)
   happens-new a b (readsFrom h) =
@@ -94,9 +89,6 @@ module _ {g : Graph} (f : WellFormed g) (d : Addition g) where
       none-out b (readsFrom h) = new-unread b h
 
   module _ (newest : d .after ≡ []) where
-    last-there : order g (d .location) ≡ d .before ++ d .picked ∷ []
-    last-there = d .split ∙ ap (λ l. d .before ++ d .picked ∷ l) newest
-
     none-after : (b : Id) → Member b (d .after) → ⊥
     none-after b m = List·Memᴰ·not-nil (subst (Member b) newest m)
 
@@ -105,18 +97,17 @@ module _ {g : Graph} (f : WellFormed g) (d : Addition g) where
     picked-is-last b y h =
         let q = one-location f (d .picked) y (d .location) (precedes-members (order g y) h .0) (in-order d) in
         let m = in-front (d .before) (d .picked)
-        (subst (Precedes (d .picked) b) last-there (subst (λ z. Precedes (d .picked) b (order g z)) q h)) in
+        (subst (Precedes (d .picked) b) (picked-last d newest) (subst (λ z. Precedes (d .picked) b (order g z)) q h)) in
         f .no-repeats (d .location) (d .picked)
-        (subst⁻¹ (Precedes (d .picked) (d .picked)) last-there (precedes-put-in (d .before) (d .picked) [] m))
+        (subst⁻¹ (Precedes (d .picked) (d .picked)) (picked-last d newest)
+        (precedes-put-in (d .before) (d .picked) [] m))
 
     new-precedes-none : (b : Id) → ModificationOrder (grown d) (newId d) b → ⊥
     new-precedes-none b (at y h) =
-        ⊎-elim (λ o. unlisted y (precedes-members (order g y) o .0))
-        (⊎-elim (λ n. none-after b (n .1)) (λ n. unlisted (d .location) (subst⁻¹ (Member (newId d)) last-there (n .2))))
+        ⊎-elim (λ o. new-unlisted f d y (precedes-members (order g y) o .0))
+        (⊎-elim (λ n. none-after b (n .1))
+        (λ n. new-unlisted f d (d .location) (subst⁻¹ (Member (newId d)) (picked-last d newest) (n .2))))
         (precedes-old-or-new d y h)
-      where
-        unlisted : (y : ℕ) → Member (newId d) (order g y) → ⊥
-        unlisted y m = listed-not-next f (d .thread) y (newId d) m refl
 
     new-reads-last : (b : Id) → FromRead (grown d) (newId d) b → ⊥
     new-reads-last b r = go (r .later)

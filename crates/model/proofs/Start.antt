@@ -1,51 +1,28 @@
 -- The graph of the starting writes alone.
 use mathlib.Core.Path.{_≡_, refl, sym, ap, _∙_, subst, subst⁻¹}
-use mathlib.Core.List.{List, [], _∷_, _++_, map, map-append, List·Memᴰ as Member, List·Memᴰ·head}
-use mathlib.Core.List.{List·Memᴰ·eq-of-singleton, List·Memᴰ·not-nil}
+use mathlib.Core.List.{List, [], _∷_, List·Memᴰ as Member, List·Memᴰ·head, List·Memᴰ·eq-of-singleton, List·Memᴰ·not-nil}
 use mathlib.Core.Option.{some}
 use mathlib.Core.Logic.{_⊎_, inl, inr, ⊎-elim}
-use Prim.Native.Nat.{ℕ, zero, suc, _<_, _≤_}
+use Prim.Native.Nat.{ℕ, _<_, _≤_}
 use native.Mathlib.Omega.{arith}
 use native.Mathlib.Decide.{decLt}
-use lib.ListN.{length, getD, length-map, List·getD-append, List·getD-eq-default}
-use lib.Seq.{getD-at}
+use lib.ListN.{length, length-map, List·getD-eq-default, List·getD-map}
 use Rattle.relations.specs.Closure.{Precedes}
-use Rattle.relations.proofs.Decide.{precedes-cases, precedes-not-nil}
-use Rattle.relations.proofs.Lists.{length-of-snoc, place-in-range}
+use Rattle.relations.proofs.Precedes.{precedes-not-nil, precedes-not-single}
+use Rattle.lists.proofs.Places.{place-in-range}
 use Rattle.program.specs.Program.{Program, Line}
-use Rattle.model.specs.Graph.{Id, start, event, Event, writeE, eventsOf, order, eventAt, below, sourceOf}
-use Rattle.model.specs.Graph.{startGraph}
+use Rattle.model.specs.Graph.{Id, start, event, Event, writeE, eventsOf, order, eventAt, sourceOf, startGraph}
 use Rattle.relations.proofs.Laws.{first-edge}
 use Rattle.model.specs.Order.{ThreadOrder, starting, within, ModificationOrder, at, HappensEdge, threadOrder}
-use Rattle.model.specs.Order.{readsFrom}
-use Rattle.model.specs.Order.{ScEdge, happensBefore, modificationOrder, fromRead, ScOrder}
+use Rattle.model.specs.Order.{readsFrom, ScEdge, happensBefore, modificationOrder, fromRead, ScOrder}
 use Rattle.model.proofs.Lookup.{start-there, start-is, reading-event}
 use Rattle.model.proofs.WellFormed.{writesTo, WriteTo, WellFormed}
-
-pub length-below : (n : ℕ) → length (below n) ≡ n
-unfolding below
-length-below zero = refl
-length-below (suc n) = length-of-snoc (below n) n ∙ ap suc (length-below n)
-
-pub row-of-below : {A : Type 0} (f : ℕ → A) (d : A) (n i : ℕ) → i < n → getD (map f (below n)) i d ≡ f i
-unfolding below
-row-of-below f d zero i h = absurd (omega arith)
-row-of-below f d (suc n) i h =
-    ap (λ l. getD l i d) (map-append f (below n) (n ∷ [])) ∙ go (λ k. row-of-below f d n i k) (decLt i n)
-  where
-    size : length (map f (below n)) ≡ n
-    size = length-map (below n) f ∙ length-below n
-
-    go : (i < n → getD (map f (below n)) i d ≡ f i) → Dec (i < n) → getD (map f (below n) ++ f n ∷ []) i d ≡ f i
-    go rest (yes k) = List·getD-append (map f (below n)) (f n ∷ []) d i (omega (arith, size)) ∙ rest k
-    go rest (no k) =
-        let q : n ≡ i = omega arith in
-        getD-at (map f (below n)) (f n) [] d i (size ∙ q) ∙ ap f q
+use Rattle.model.proofs.Below.{length-of-row, row-of-below}
 
 module _ (p : Program) where
   pub start-locations : length (startGraph p .orders) ≡ p .locations
   unfolding startGraph
-  start-locations = length-map (below (p .locations)) _ ∙ length-below (p .locations)
+  start-locations = length-of-row (λ x. start x ∷ []) (p .locations)
 
   pub start-threads : length (startGraph p .events) ≡ length (p .threads)
   unfolding startGraph
@@ -68,14 +45,9 @@ module _ (p : Program) where
       go (yes h) = inl (h, start-order x h)
       go (no h) = inr (no-order x (omega arith))
 
-  no-rows : (ls : List (List Line)) (t : ℕ) → getD (map {B = List Event} (λ l. []) ls) t [] ≡ []
-  no-rows [] t = refl
-  no-rows (l ∷ ls) zero = refl
-  no-rows (l ∷ ls) (suc t) = no-rows ls t
-
   pub start-events : (t : ℕ) → eventsOf (startGraph p) t ≡ []
   unfolding startGraph
-  start-events t = no-rows (p .threads) t
+  start-events t = List·getD-map (λ (ls : List Line). []) (p .threads) t []
 
   -- Every event is a starting write.
   pub start-event-is : (a : Id) {v : Event} → eventAt (startGraph p) a ≡ some v
@@ -99,7 +71,7 @@ module _ (p : Program) where
         sources-listed =
             λ r w v h k. let s = start-event-is r h in absurd (let z : _≡_ {A = ℕ} 0 1 = cc (s .2) in omega arith);
         no-repeats =
-            λ x a h. ⊎-elim (λ o. alone x a (subst (Precedes a a) (o .1) h))
+            λ x a h. ⊎-elim (λ o. precedes-not-single (subst (Precedes a a) (o .1) h))
             (λ o. precedes-not-nil (subst (Precedes a a) o h)) (start-orders x);
         headed = λ x h. ([], start-order x (subst (λ n. x < n) start-locations h));
       }
@@ -121,9 +93,6 @@ module _ (p : Program) where
           let z : y ≡ x = cc (w .to, e) in
           subst⁻¹ (Member a) (start-order x (subst (λ n. n < p .locations) z h)) (List·Memᴰ·head (q ∙ ap start z))
 
-      alone : (x : ℕ) (a : Id) → Precedes a a (start x ∷ []) → ⊥
-      alone x a h = ⊎-elim (λ q. List·Memᴰ·not-nil (q .1)) precedes-not-nil (precedes-cases h)
-
   -- Nothing comes before anything.
   no-thread-order : {a b : Id} → ThreadOrder (startGraph p) a b → ⊥
   no-thread-order (starting {t = t} l h) = omega (arith, ap length (start-events t))
@@ -141,7 +110,7 @@ module _ (p : Program) where
   no-modification-order : {a b : Id} → ModificationOrder (startGraph p) a b → ⊥
   no-modification-order {a} {b} (at x h) =
       ⊎-elim
-      (λ o. ⊎-elim (λ q. List·Memᴰ·not-nil (q .1)) precedes-not-nil (precedes-cases (subst (Precedes a b) (o .1) h)))
+      (λ o. precedes-not-single (subst (Precedes a b) (o .1) h))
       (λ o. precedes-not-nil (subst (Precedes a b) o h)) (start-orders x)
 
   no-sc-edge : (a b : Id) → ScEdge (startGraph p) a b → ⊥

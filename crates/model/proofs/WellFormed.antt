@@ -1,8 +1,8 @@
 -- What holds of every graph that runs build, under either rule, and that each access keeps it.
 use mathlib.Core.Path.{_≡_, refl, sym, ap, _∙_, subst, subst⁻¹}
 use mathlib.Core.Bool.{true}
-use mathlib.Core.List.{List, [], _∷_, _++_, List·Memᴰ as Member}
-use mathlib.Core.List.{Memᴰ·append-left, Memᴰ·append-right, head-eq-of-cons-eq}
+use mathlib.Core.List.{List, [], _∷_, _++_, List·Memᴰ as Member, Memᴰ·append-left, Memᴰ·append-right}
+use mathlib.Core.List.{head-eq-of-cons-eq}
 use mathlib.Core.Option.{Option, none, some}
 use mathlib.Core.Logic.{⊎-elim}
 use Prim.Native.Nat.{ℕ, _<_}
@@ -12,11 +12,10 @@ use Rattle.relations.specs.Closure.{Precedes}
 use Rattle.program.specs.Thread.{Action, reads, writes, updates, writing}
 use Rattle.model.specs.Graph.{Id, start, Event, readE, writeE, updateE, Graph, order, eventAt, locationOf}
 use Rattle.model.specs.Graph.{sourceOf, nextId, eventOf}
-use Rattle.model.proofs.Lookup.{same-locations, present-not-next}
-use Rattle.model.proofs.Growth.{Addition, in-order, newId, newEvent, newOrder, grown, upToPicked}
-use Rattle.model.proofs.Growth.{OrderAfter, unchanged, putIn, order-after, member-stays, member-old-or-new}
-use Rattle.model.proofs.Growth.{precedes-old-or-new, event-stays}
-use Rattle.model.proofs.Growth.{old-order, new-listed, new-there, there-old-or-new}
+use Rattle.model.proofs.Lookup.{present-not-next}
+use Rattle.model.proofs.Growth.{Addition, in-order, newId, newEvent, grown, upToPicked, OrderAfter, unchanged}
+use Rattle.model.proofs.Growth.{putIn, order-after, member-stays, member-old-or-new, precedes-old-or-new}
+use Rattle.model.proofs.Growth.{event-stays, old-order, new-listed, new-there, there-old-or-new, locations-stay}
 
 -- The location that an event writes.
 unfoldable pub writesTo : Event → Option ℕ
@@ -46,6 +45,14 @@ pub record WellFormed (g : Graph) : Type 0 where
 -- What stands in an order is no new id.
 pub listed-not-next : {g : Graph} → WellFormed g → (t x : ℕ) (a : Id) → Member a (order g x) → a ≡ nextId g t → ⊥
 listed-not-next {g} f t x a m = present-not-next g t a (f .listed-writes x a m .there)
+
+pub new-unlisted : {g : Graph} → WellFormed g → (d : Addition g) (x : ℕ) → Member (newId d) (order g x) → ⊥
+new-unlisted f d x m = listed-not-next f (d .thread) x (newId d) m refl
+
+-- A write that stands in an order is the same event in the graph that has grown.
+pub listed-event-stays : {g : Graph} → WellFormed g → (d : Addition g) (x : ℕ) (a : Id) → Member a (order g x)
+    → eventAt (grown d) a ≡ eventAt g a
+listed-event-stays f d x a m = let w = f .listed-writes x a m in event-stays d a (w .there) ∙ sym (w .there)
 
 -- What an access adds, by its action.
 pub new-write-to : (a : Action) (x u : ℕ) (w : Id) → writing a ≡ true → writesTo (eventOf a x u w) ≡ some x
@@ -137,7 +144,7 @@ module _ {g : Graph} (f : WellFormed g) (d : Addition g) where
   headed-kept x h = go (order-after d x)
     where
       was : (rest : List Id) × (order g x ≡ start x ∷ rest)
-      was = f .headed x (subst (λ n. x < n) (same-locations g (d .thread) (newEvent d) (d .location) (newOrder d)) h)
+      was = f .headed x (subst (λ n. x < n) (locations-stay d) h)
 
       go : OrderAfter d x → (rest : List Id) × (order (grown d) x ≡ start x ∷ rest)
       go (unchanged o) = (was .0, o ∙ was .1)

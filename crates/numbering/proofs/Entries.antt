@@ -2,17 +2,17 @@
 -- changes nothing.
 use Prim.Native.Nat.{ℕ, zero, suc, _≤_}
 use native.Mathlib.Omega.{arith}
-use mathlib.Core.Path.{_≡_, refl, sym, ap, _∙_, subst}
+use mathlib.Core.Path.{_≡_, refl, sym, ap, _∙_, subst, ap₂}
 use mathlib.Core.Logic.{⊎-elim}
 use mathlib.Core.Bool.{Bool, true, false, cond}
 use mathlib.Core.List.{List, [], _∷_, _++_, map, dropLast, map-map, IsPrefix}
-use mathlib.Core.Option.{Option, some, Option·elim, bind, Option·some-injective}
+use mathlib.Core.Option.{Option, some, Option·elim, bind, Option·some-injective, Option·none-ne-some}
 use lib.ListN.{length, take, getElem?, length-map}
 use Rattle.numbering.specs.Schedule.{Schedule}
 use Rattle.numbering.specs.Numbering.{Visit, Entry, known, number, firsts, byOf, fromOf, entryOf, entries}
 use Rattle.numbering.specs.Queue.{first, queue, Steps, childTo}
-use Rattle.numbering.proofs.Lists.{nothing-there, place-in-range, place-of-map, place-behind-front}
-use Rattle.numbering.proofs.Lists.{taken-from-front, take-of-map, map-unchanged}
+use Rattle.numbering.proofs.Fronts.{place-behind-front, taken-from-front, take-of-map}
+use Rattle.lists.proofs.Places.{place-in-range, place-of-map}
 use Rattle.numbering.proofs.Extend.{neither-true, known-image}
 use Rattle.numbering.proofs.Firsts.{keyOf}
 use Rattle.numbering.proofs.Turns.{entryKey}
@@ -21,13 +21,13 @@ use Rattle.numbering.proofs.Numbered.{table-in-firsts, same-first-visit
 use Rattle.numbering.proofs.Origins.{Parent, Rooted, along-parents, placed, queue-rooted}
 
 -- A schedule with one thread more.
-pub by-last-thread : (s : Schedule) (t : ℕ) → byOf (s ++ t ∷ []) ≡ suc t
+by-last-thread : (s : Schedule) (t : ℕ) → byOf (s ++ t ∷ []) ≡ suc t
 unfolding byOf
 by-last-thread [] t = refl
 by-last-thread (u ∷ []) t = refl
 by-last-thread (u ∷ v ∷ s) t = by-last-thread (v ∷ s) t
 
-pub without-last-thread : (s : Schedule) (t : ℕ) → dropLast (s ++ t ∷ []) ≡ s
+without-last-thread : (s : Schedule) (t : ℕ) → dropLast (s ++ t ∷ []) ≡ s
 without-last-thread [] t = refl
 without-last-thread (u ∷ []) t = refl
 without-last-thread (u ∷ v ∷ s) t = ap (λ r. u ∷ r) (without-last-thread (v ∷ s) t)
@@ -40,12 +40,17 @@ from-before-last same reached vs [] t = refl
 from-before-last same reached vs (u ∷ s) t =
     ap (λ r. Option·elim (reached r) 0 (number same keyOf vs)) (without-last-thread (u ∷ s) t)
 
+map-unchanged : {A : Type 0} (f : A → A) (l : List A) → ((i : ℕ) (a : A) → getElem? l i ≡ some a → f a ≡ a)
+    → map f l ≡ l
+map-unchanged f [] h = refl
+map-unchanged f (a ∷ l) h = ap₂ _∷_ (h 0 a refl) (map-unchanged f l (λ i b e. h (suc i) b e))
+
 -- The number of a situation is the place that has it first.
 number-at-place : {A X : Type 0} (same : A → A → Bool) (key : X → A) → ((a : A) → same a a ≡ true)
     → (l : List X) (i : ℕ) {x : X}
     → getElem? l i ≡ some x → known same key (key x) (take i l) ≡ false → number same key l (key x) ≡ suc i
 unfolding number known
-number-at-place same key self [] i h fresh = absurd (nothing-there h)
+number-at-place same key self [] i h fresh = absurd (Option·none-ne-some _ h)
 number-at-place same key self (y ∷ l) zero {x} h fresh =
     ap (λ b. cond b 1 (suc (number same key l (key x))))
     (ap (λ z. same (key x) (key z)) (Option·some-injective y x h) ∙ self (key x))

@@ -2,11 +2,11 @@
 -- unless it is 0.
 use Prim.Native.Nat.{ℕ, zero, suc, _+_, _*_, _%_, _≤_}
 use native.Mathlib.Omega.{arith}
-use mathlib.Core.Path.{_≡_, refl, sym, ap, subst}
-use mathlib.Core.Bool.{Bool, true, false, cond}
+use mathlib.Core.Path.{_≡_, refl, ap}
+use mathlib.Core.Bool.{cond}
 use mathlib.Core.List.{[], _∷_, flatMap, filterMap}
-use mathlib.Core.Option.{Option, none, some, Option·map, Option·elim, bind}
-use lib.Dec.{T as Holds, eqb, eqb→eq, eqb-refl}
+use mathlib.Core.Option.{Option, none, some, Option·elim, bind, map-id}
+use lib.Dec.{eqb}
 use Rattle.numbering.specs.Schedule.{Schedule, threadsFrom, ofLength, upTo, after, situationAfter}
 use Rattle.numbering.specs.Numbering.{Entry, extend, known, keepUnless, number, visits, firsts, byOf, fromOf}
 use Rattle.numbering.specs.Numbering.{entryOf, entries}
@@ -14,6 +14,7 @@ use Rattle.numbering.specs.Verdict.{Verdict, found, full, closed, judged
 use Rattle.numbering.specs.Queue.{first, child, childrenBy, childrenAt, queue, Steps}
 use Rattle.numbering.proofs.Verdicts.{verdict-by-queue}
 use Rattle.numbering.proofs.Simulation.{steps-of-simulation}
+use borrow.Author.Tests.{eq-eqb, eqb-true}
 
 count : ℕ → ℕ → ℕ → Option ℕ
 count m zero a = some ((a + 1) % m)
@@ -30,18 +31,9 @@ reached m = situationAfter (count m) 0 (λ a. a)
 counted : (m : ℕ) → Steps eqb 2 (reached m) 0 (count m)
 unfolding reached count
 counted m =
-    steps-of-simulation eqb 2 0 (count m) (λ a. a) (count m) (λ a b h. eqb→eq a b (subst Holds (sym h) tt))
-    (λ a. passes (eqb a a) (eqb-refl a))
-    (λ s. Unit {0}) tt (λ t s u g h. tt) (λ t s lt g. map-nothing (count m t s)) no-thread
+    steps-of-simulation eqb 2 0 (count m) (λ a. a) (count m) eqb-true (λ a. eq-eqb a a refl)
+    (λ s. Unit {0}) tt (λ t s u g h. tt) (λ t s lt g i. map-id i (count m t s)) no-thread
   where
-    passes : (b : Bool) → Holds b → b ≡ true
-    passes true h = refl
-    passes false h = absurd h
-
-    map-nothing : (o : Option ℕ) → Option·map (λ a. a) o ≡ o
-    map-nothing none = refl
-    map-nothing (some a) = refl
-
     no-thread : (t a : ℕ) → 2 ≤ t → Unit {0} → count m t a ≡ none
     no-thread zero a le g = absurd (omega arith)
     no-thread (suc zero) a le g = absurd (omega arith)

@@ -7,13 +7,13 @@ use mathlib.Core.Logic.{_⊎_, inl, inr, ⊎-elim}
 use mathlib.Core.Bool.{Bool}
 use mathlib.Core.List.{List, [], _∷_, _++_, IsPrefix, List·Memᴰ as Member, List·Memᴰ·head, List·Memᴰ·cases-cons}
 use mathlib.Core.List.{List·Memᴰ·append-cases, Memᴰ·append-right}
-use mathlib.Core.Option.{Option, some}
+use mathlib.Core.Option.{Option, some, Option·none-ne-some}
 use lib.ListN.{length, take, getElem?}
 use Rattle.numbering.specs.Schedule.{Schedule, Earlier}
 use Rattle.numbering.specs.Numbering.{Visit, extend, visits, firsts, FirstSchedule, visit}
 use Rattle.numbering.specs.Queue.{Steps}
-use Rattle.numbering.proofs.Lists.{nothing-there, place-in-range, place-behind-front, place-of-member}
-use Rattle.numbering.proofs.Lists.{taken-from-front}
+use Rattle.numbering.proofs.Fronts.{place-behind-front, taken-from-front}
+use Rattle.lists.proofs.Places.{place-in-range, place-of-member}
 use Rattle.numbering.proofs.Extend.{Known, Added, old-or-added, not-both, member-is-known, offered-is-known}
 use Rattle.numbering.proofs.Extend.{known-member}
 use Rattle.numbering.proofs.Schedules.{Ascending, later-in-order, not-earlier-both-ways}
@@ -30,7 +30,7 @@ module _ {A : Type 0} {same : A → A → Bool} {T : ℕ} {reached : Schedule �
       → Added same keyOf [] (visits T reached n) k v
   unfolding firsts
   first-visit-added n k v h =
-      ⊎-elim (λ e. absurd (nothing-there e)) (λ r. r) (old-or-added same keyOf [] (visits T reached n) k h)
+      ⊎-elim (λ e. absurd (Option·none-ne-some _ e)) (λ r. r) (old-or-added same keyOf [] (visits T reached n) k h)
 
   -- Theorem: no schedule that passes a test is earlier than the first place that passes it.
   pub first-passing : (n k : ℕ) (v : Visit A) → getElem? (numbered n) k ≡ some v → (P : A → Type 0)

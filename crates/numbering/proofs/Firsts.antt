@@ -11,7 +11,8 @@ use mathlib.Core.Option.{Option, some, Option·map, map-eq-some-iff}
 use Rattle.numbering.specs.Schedule.{Schedule, threads, ofLength, upTo}
 use Rattle.numbering.specs.Numbering.{Visit, visits, known, extend, firsts, visit}
 use Rattle.numbering.specs.Queue.{Steps}
-use Rattle.numbering.proofs.Lists.{front-of-later, front-of-pieces, kept-from, kept-of}
+use Rattle.numbering.proofs.Fronts.{front-of-later, front-of-pieces}
+use Rattle.numbering.proofs.Kept.{kept-from, kept-of}
 use Rattle.numbering.proofs.Extend.{Known, known-in-append, known-member, known-stays, extend-done}
 use Rattle.numbering.proofs.Extend.{extend-from-nothing, extend-append, extend-front-grows, nothing-new}
 use Rattle.numbering.proofs.Extend.{offered-is-known, news, news-none, news-known, news-new, extend-adds-news}

@@ -12,7 +12,8 @@ use Rattle.numbering.specs.Schedule.{threads}
 use Rattle.numbering.specs.Numbering.{Entry, extend}
 use Rattle.numbering.specs.Verdict.{Outcome, found, full, closed, Verdict, judged, cut, entryEnds}
 use Rattle.numbering.specs.Queue.{first, child, childrenBy, childrenAt, queue, childTo}
-use Rattle.numbering.proofs.Lists.{place-of-member, member-at-place, kept-alike}
+use Rattle.lists.proofs.Places.{place-of-member, member-at-place, place-mapped}
+use Rattle.numbering.proofs.Kept.{kept-alike}
 use Rattle.numbering.proofs.Extend.{extend-image}
 use Rattle.numbering.proofs.Schedules.{thread-in-range}
 use Rattle.numbering.proofs.Turns.{entryKey}
@@ -44,11 +45,6 @@ module _ {X Y E : Type 0} (h : X → Y) where
       go : (o : Option E) → judged (h x) o (verdictImage (cut ending n l)) ≡ verdictImage (judged x o (cut ending n l))
       go none = refl
       go (some e) = refl
-
-place-of-image : {X Y : Type 0} (h : X → Y) (l : List X) (i : ℕ) → getElem? (map h l) i ≡ Option·map h (getElem? l i)
-place-of-image h [] i = refl
-place-of-image h (x ∷ l) zero = refl
-place-of-image h (x ∷ l) (suc i) = place-of-image h l i
 
 module _ {A B : Type 0} (same : A → A → Bool) (same′ : B → B → Bool) (T : ℕ) (start : A) (step : ℕ → A → Option A)
     (step′ : ℕ → B → Option B)
@@ -97,7 +93,7 @@ module _ {A B : Type 0} (same : A → A → Bool) (same′ : B → B → Bool) (
   queue-of-images zero = refl
   queue-of-images (suc i) =
       ap₂ (λ q o. extend same′ entryKey q (childrenAt step′ T i o)) (queue-of-images i)
-      (ap (λ q. getElem? q i) (queue-of-images i) ∙ place-of-image (imageOf f) q i)
+      (ap (λ q. getElem? q i) (queue-of-images i) ∙ place-mapped (imageOf f) q i)
       ∙ ap (extend same′ entryKey (map (imageOf f) q)) (images-to-add i (getElem? q i) good-there) ∙ sym images-added
     where
       q : List (Entry A)

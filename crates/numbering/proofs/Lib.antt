@@ -1,4 +1,5 @@
-pub mod Lists
+pub mod Fronts
+pub mod Kept
 pub mod Extend
 pub mod Schedules
 pub mod Visits

@@ -12,8 +12,8 @@ use lib.Seq.{take-all}
 use Rattle.numbering.specs.Schedule.{Schedule}
 use Rattle.numbering.specs.Numbering.{Visit, Entry, firsts, visit}
 use Rattle.numbering.specs.Queue.{first, queue, Steps}
-use Rattle.numbering.proofs.Lists.{front-of-equal, front-of-front, fronts-of-each-other, front-taken}
-use Rattle.numbering.proofs.Lists.{front-of-map, taken-from-front}
+use Rattle.numbering.proofs.Fronts.{front-of-equal, front-of-front, fronts-of-each-other, front-taken}
+use Rattle.numbering.proofs.Fronts.{front-of-map, taken-from-front}
 use Rattle.numbering.proofs.Extend.{extend-front}
 use Rattle.numbering.proofs.Visits.{kids}
 use Rattle.numbering.proofs.Firsts.{keyOf, expanded, expanded-front, firsts-of-no-thread, firsts-step-by-step}

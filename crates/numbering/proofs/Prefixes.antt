@@ -4,20 +4,21 @@ use native.Mathlib.Omega.{arith}
 use mathlib.Core.Path.{_≡_, sym, ap, _∙_, subst}
 use mathlib.Core.Logic.{⊎-elim}
 use mathlib.Core.Bool.{Bool}
-use mathlib.Core.List.{List, [], _∷_, _++_, map, dropLast}
+use mathlib.Core.List.{List, [], _∷_, _++_, map}
 use mathlib.Core.Option.{Option, some}
 use lib.ListN.{length, take, getElem?, length-append}
 use Rattle.numbering.specs.Schedule.{Schedule}
-use Rattle.numbering.specs.Numbering.{Visit, Entry, byOf, firsts, entries, FirstSchedule, visit}
+use Rattle.numbering.specs.Numbering.{Visit, Entry, firsts, entries, FirstSchedule, visit}
 use Rattle.numbering.specs.Queue.{first, queue, Steps}
-use Rattle.numbering.proofs.Lists.{front-taken, place-behind-front, place-in-front, place-of-front, place-in-map}
-use Rattle.numbering.proofs.Lists.{place-of-map}
+use Rattle.numbering.proofs.Fronts.{front-taken, place-behind-front}
+use Rattle.lists.proofs.Places.{place-in-map, place-of-map, place-taken}
 use Rattle.numbering.proofs.Firsts.{firsts-front}
 use Rattle.numbering.proofs.FirstSchedules.{place-has-first-schedule, first-schedule-placed}
 use Rattle.numbering.proofs.Expansion.{visitOf}
 use Rattle.numbering.proofs.Numbered.{table-in-firsts, same-first-visits}
 use Rattle.numbering.proofs.Origins.{Parent, Rooted, rooted-front, queue-rooted}
-use Rattle.numbering.proofs.Entries.{by-last-thread, without-last-thread, entries-by-queue}
+use Rattle.numbering.proofs.Entries.{entries-by-queue}
+use Rattle.lists.proofs.Ends.{same-last}
 
 module _ {A : Type 0} {same : A → A → Bool} {T : ℕ} {reached : Schedule → Option A} {start : A}
     {step : ℕ → A → Option A} (laws : Steps same T reached start step) where
@@ -31,7 +32,7 @@ module _ {A : Type 0} {same : A → A → Bool} {T : ℕ} {reached : Schedule �
   pub place-in-queue : (n k : ℕ) (v : Visit A) → getElem? (numbered n) k ≡ some v
       → (x : Entry A) × (getElem? (table (n + k)) k ≡ some x) × (visitOf x ≡ v)
   place-in-queue n k v h =
-      place-in-map visitOf (table N) k (place-of-front (suc N) (map visitOf (table N)) k in-front .1)
+      place-in-map visitOf (table N) k (sym (place-taken (suc N) (map visitOf (table N)) k (omega arith)) ∙ in-front)
     where
       N : ℕ
       N = n + k
@@ -42,7 +43,7 @@ module _ {A : Type 0} {same : A → A → Bool} {T : ℕ} {reached : Schedule �
       in-front : getElem? (take (suc N) (map visitOf (table N))) k ≡ some v
       in-front =
           subst (λ l. getElem? l k ≡ some v) (same-first-visits laws N N (omega arith))
-          (place-in-front (suc N) (numbered N) k (omega arith) in-firsts)
+          (place-taken (suc N) (numbered N) k (omega arith) ∙ in-firsts)
 
   pub queue-has-first-schedules : (i k : ℕ) (x : Entry A) → getElem? (table i) k ≡ some x
       → FirstSchedule reached (x .path) (x .key)
@@ -84,8 +85,9 @@ module _ {A : Type 0} {same : A → A → Bool} {T : ℕ} {reached : Schedule �
       child : Parent T start step (table N) k x → (a : A) × FirstSchedule reached s a × (step t a ≡ some b)
       child r = (
         a,
-        subst (λ z. FirstSchedule reached z a) path-is (queue-has-first-schedules N (r .index) (r .parent) (r .there)),
-        ap (λ u. step u a) (omega (arith, thread-is)) ∙ r .made ∙ ap (λ v. some (v .key)) (w .2),
+        subst (λ z. FirstSchedule reached z a) (last .0)
+            (queue-has-first-schedules N (r .index) (r .parent) (r .there)),
+        sym (ap (λ u. step u a) (last .1)) ∙ r .made ∙ ap (λ v. some (v .key)) (w .2),
       )
         where
           a : A
@@ -97,11 +99,8 @@ module _ {A : Type 0} {same : A → A → Bool} {T : ℕ} {reached : Schedule �
           path-of-x : s′ ++ r .thread ∷ [] ≡ s ++ t ∷ []
           path-of-x = ap (λ z. z .path) (sym (r .child-is)) ∙ ap (λ v. v .path) (w .2)
 
-          path-is : s′ ≡ s
-          path-is = sym (without-last-thread s′ (r .thread)) ∙ ap dropLast path-of-x ∙ without-last-thread s t
-
-          thread-is : suc (r .thread) ≡ suc t
-          thread-is = sym (by-last-thread s′ (r .thread)) ∙ ap byOf path-of-x ∙ by-last-thread s t
+          last : (s′ ≡ s) × (r .thread ≡ t)
+          last = same-last s′ s (r .thread) t path-of-x
 
   -- Theorem: of the first n + 1 entries, the first has the start, and every other is a child of an earlier one.
   pub entries-rooted : (n : ℕ) → Rooted T start step (take (suc n) (entries same T reached n))

@@ -14,7 +14,7 @@ use Rattle.numbering.specs.Schedule.{Schedule}
 use Rattle.numbering.specs.Numbering.{Entry}
 use Rattle.numbering.specs.Queue.{first, queue, Steps}
 use Rattle.numbering.specs.Back.{Back, arrived, further}
-use Rattle.numbering.proofs.Lists.{place-in-front, member-at-place}
+use Rattle.lists.proofs.Places.{member-at-place, place-taken}
 use Rattle.numbering.proofs.Extend.{Known, not-both, member-is-known}
 use Rattle.numbering.proofs.Turns.{entryKey}
 use Rattle.numbering.proofs.Origins.{Parent, Rooted, along-parents, placed}
@@ -112,7 +112,7 @@ module _ {A : Type 0} {same : A → A → Bool} {T : ℕ} {reached : Schedule �
   later-differs n j k x y h e lt same-key =
       not-both (subst (λ a. Known same entryKey a front) same-key
       (member-is-known same entryKey (laws .same-self) front
-      (member-at-place front j (place-in-front k (table n) j lt h))))
+      (member-at-place front j (place-taken k (table n) j lt ∙ h))))
       (placed same T start step n k y e .fresh)
     where
       front : List (Entry A)

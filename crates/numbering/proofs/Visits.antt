@@ -9,11 +9,13 @@ use mathlib.Core.Bool.{Bool}
 use mathlib.Core.List.{List, [], _∷_, _++_, flatMap, filterMap, filterMap-append, filterMap-map, filterMap-cons-some}
 use mathlib.Core.List.{List·Memᴰ as Member, List·Memᴰ·not-nil, List·Memᴰ·append-cases, List·Memᴰ·eq-of-singleton}
 use mathlib.Core.Option.{Option, none, some, Option·map, Option·elim, bind, map-eq-some-iff, bind-eq-some-iff}
+use mathlib.Core.Option.{Option·none-ne-some}
 use lib.ListN.{length}
 use Rattle.numbering.specs.Schedule.{Schedule, threads, upTo, ofLength, Earlier}
 use Rattle.numbering.specs.Numbering.{Visit, visit, visits}
 use Rattle.numbering.specs.Queue.{Steps}
-use Rattle.numbering.proofs.Lists.{nothing-there, from-the-end, kept-from, kept-of, kept-alike, none-kept}
+use Rattle.numbering.proofs.Kept.{kept-from, kept-of, kept-alike, none-kept}
+use Rattle.lists.proofs.Ends.{from-the-end}
 use Rattle.numbering.proofs.Schedules.{Ascending, ascending-kept, thread-in-range, every-schedule}
 use Rattle.numbering.proofs.Schedules.{schedules-in-order, followed, schedules-step-by-step}
 
@@ -86,7 +88,7 @@ module _ {A : Type 0} {same : A → A → Bool} {T : ℕ} {reached : Schedule �
       go (yes lt) =
           let r = bind-eq-some-iff (reached s) (step t) .0 (sym (laws .one-more s t lt) ∙ h) in
           record { thread = lt; before = r .0; run = r .1; made = r .2 }
-      go (no n) = absurd (nothing-there (sym (laws .no-such-thread s t (omega arith)) ∙ h))
+      go (no n) = absurd (Option·none-ne-some _ (sym (laws .no-such-thread s t (omega arith)) ∙ h))
 
   threads-of-run : (s : Schedule) (a : A) → reached s ≡ some a → (t : ℕ) → Member t s → t < T
   threads-of-run =

@@ -1,12 +1,13 @@
--- The closure is decided over a list of vertices that has every target of an edge: vertices are allowed between the
--- ends one at a time.
+-- Decisions: by parts, over the members and the splits of a list, and of a closure. That one is decided over a list of
+-- vertices that has every target of an edge: vertices are allowed between the ends one at a time.
 use mathlib.Core.Path.{_≡_, refl, sym, ap, subst, subst₂}
-use mathlib.Core.List.{List, [], _∷_, _++_, nil≢cons, head-eq-of-cons-eq, tail-eq-of-cons-eq}
-use mathlib.Core.List.{List·Memᴰ as Member, List·Memᴰ·head, List·Memᴰ·tail, List·Memᴰ·cases-cons}
-use mathlib.Core.List.{List·Memᴰ·not-nil}
+use mathlib.Core.List.{List, [], _∷_, _++_, head-eq-of-cons-eq, tail-eq-of-cons-eq, List·Memᴰ as Member, List·Memᴰ·head}
+use mathlib.Core.List.{List·Memᴰ·tail, List·Memᴰ·cases-cons, List·Memᴰ·not-nil}
 use mathlib.Core.Logic.{_⊎_, inl, inr, ⊎-elim}
 use Rattle.relations.specs.Closure.{Relation, Closure, edge, further, IsOrBefore, Reaches, Precedes, here, later}
+use Rattle.lists.proofs.Ends.{split-not-nil}
 use Rattle.relations.proofs.Laws.{closure-joins}
+use Rattle.relations.proofs.Precedes.{precedes-not-nil, precedes-cases}
 
 pub dec-map : {A B : Type 0} → (A → B) → (B → A) → Dec A → Dec B
 dec-map f g (yes a) = yes (f a)
@@ -25,6 +26,10 @@ dec-and (no n) d = no (λ p. n (p .0))
 pub dec-not : {A : Type 0} → Dec A → Dec (A → ⊥)
 dec-not (yes a) = no (λ n. n a)
 dec-not (no n) = yes n
+
+pub dec-implies : {A B : Type 0} → Dec A → Dec B → Dec (A → B)
+dec-implies (yes a) d = dec-map (λ b x. b) (λ f. f a) d
+dec-implies (no n) d = yes (λ a. absurd (n a))
 
 pub dec-member : {A : Type 0} → Discrete A → (a : A) (l : List A) → Dec (Member a l)
 dec-member d a [] = no List·Memᴰ·not-nil
@@ -58,10 +63,6 @@ pub record SplitAt {A : Type 0} (P : A → List A → Type 0) (l : List A) : Typ
   pub holds : P chosen after
 
 module _ {A : Type 0} (P : A → List A → Type 0) where
-  no-split : (l : List A) (a : A) (m : List A) → [] ≡ l ++ a ∷ m → ⊥
-  no-split [] a m h = nil≢cons h
-  no-split (b ∷ l) a m h = nil≢cons h
-
   split-cases : {a : A} {l : List A} → SplitAt P (a ∷ l) → P a l ⊎ SplitAt P l
   split-cases {a} {l} s = go (s .before) (s .chosen) (s .after) (s .whole) (s .holds)
     where
@@ -76,22 +77,13 @@ module _ {A : Type 0} (P : A → List A → Type 0) where
         before = a ∷ s .before;
         chosen = s .chosen;
         after = s .after;
-        whole = ap (λ m. a ∷ m)
-            (s .whole);
+        whole = ap (λ m. a ∷ m) (s .whole);
         holds = s .holds;
       }
 
   pub dec-split : ((a : A) (l : List A) → Dec (P a l)) → (l : List A) → Dec (SplitAt P l)
-  dec-split d [] = no (λ s. no-split (s .before) (s .chosen) (s .after) (s .whole))
+  dec-split d [] = no (λ s. split-not-nil (s .before) (s .chosen) (s .after) (s .whole))
   dec-split d (a ∷ l) = dec-map split-of-cases split-cases (dec-or (d a l) (dec-split d l))
-
-pub precedes-not-nil : {A : Type 0} {a b : A} → Precedes a b [] → ⊥
-precedes-not-nil h = elim h [ ]
-
-pub precedes-cases : {A : Type 0} {a b c : A} {l : List A} → Precedes a b (c ∷ l)
-    → ((a ≡ c) × Member b l) ⊎ Precedes a b l
-precedes-cases (here q m) = inl (q, m)
-precedes-cases (later h) = inr h
 
 pub dec-precedes : {A : Type 0} → Discrete A → (a b : A) (l : List A) → Dec (Precedes a b l)
 dec-precedes d a b [] = no precedes-not-nil

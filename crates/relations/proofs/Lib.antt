@@ -1,5 +1,4 @@
 pub mod Laws
 pub mod Sink
+pub mod Precedes
 pub mod Decide
-pub mod Lists
-pub mod FlatMap

@@ -2,7 +2,7 @@
 use mathlib.Core.Path.{_≡_, subst}
 use mathlib.Core.Logic.{_⊎_, inl, inr, ⊎-elim}
 use Rattle.relations.specs.Closure.{Relation, Closure, edge, further, IsOrBefore}
-use Rattle.relations.proofs.Laws.{closure-grows, extend-before, first-edge}
+use Rattle.relations.proofs.Laws.{closure-grows, first-edge, last-edge, before-joins}
 
 -- S is R with edges into e, from which no edge goes out.
 pub record Sink {A : Type 0} (R S : Relation A) (e : A) : Type 0 where
@@ -31,17 +31,15 @@ module _ {A : Type 0} {R S : Relation A} {e : A} (sink : Sink R S e) where
 
   -- What comes before the sink is, or comes before, a direct predecessor of it.
   pub before-sink : {a : A} → Closure S a e → (b : A) × S b e × IsOrBefore (Closure R) a b
-  before-sink {a} p = go p (λ i. e)
-    where
-      go : {c : A} → Closure S a c → c ≡ e → (b : A) × S b e × IsOrBefore (Closure R) a b
-      go (edge r) q = (a, subst (λ x. S a x) q r, inl (λ i. a))
-      go (further {b = b} w r) q =
-          let r′ = subst (λ x. S b x) q r in
-          (b, r′, inr (old-way (λ q′. sink .no-way-out e (subst (λ x. S x e) q′ r′)) w))
+  before-sink p =
+      let l = last-edge p in (
+        l .0,
+        l .1,
+        ⊎-elim inl (λ w. inr (old-way (λ q. sink .no-way-out e (subst (λ x. S x e) q (l .1))) w)) (l .2),
+      )
 
   pub reach-sink : {a b : A} → S b e → IsOrBefore (Closure R) a b → Closure S a e
-  reach-sink r (inl q) = extend-before (inl q) r
-  reach-sink r (inr w) = extend-before (inr (way-kept w)) r
+  reach-sink r h = before-joins (⊎-elim inl (λ w. inr (way-kept w)) h) (edge r)
 
   -- A sink closes no cycle.
   pub sink-keeps-acyclic : ((a : A) → Closure R a a → ⊥) → (a : A) → Closure S a a → ⊥

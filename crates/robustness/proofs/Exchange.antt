@@ -5,23 +5,22 @@ use mathlib.Core.List.{List, [], _∷_, _++_, List·Memᴰ as Member}
 use mathlib.Core.Option.{some}
 use mathlib.Core.Logic.{_≢_}
 use Prim.Native.Nat.{ℕ}
-use lib.ListN.{length, set}
+use lib.ListN.{length, set, getD}
 use lib.Seq.{getD-set-other, set-comm}
-use Rattle.relations.proofs.Lists.{member-put-in}
+use Rattle.lists.proofs.Ends.{member-put-in}
 use Rattle.program.specs.Program.{Program}
-use Rattle.program.specs.Thread.{startThread, nextLine}
-use Rattle.model.specs.Graph.{Id, event, Event, Graph, eventsOf, order, eventAt, valueWritten, valueOf, nextId}
-use Rattle.model.specs.Graph.{eventOf, directlyAfter, extend}
+use Rattle.program.specs.Thread.{startThread, nextLine, ThreadState}
+use Rattle.model.specs.Graph.{Id, event, Event, Graph, eventsOf, order, valueWritten, valueOf, nextId, eventOf}
+use Rattle.model.specs.Graph.{directlyAfter, extend}
 use Rattle.model.specs.Run.{State, threadOf, Access, graphAfter, stateAfter}
 use Rattle.model.proofs.Lookup.{other-events}
-use Rattle.model.proofs.Growth.{Addition, grown, event-stays}
-use Rattle.model.proofs.WellFormed.{WellFormed}
+use Rattle.model.proofs.WellFormed.{listed-event-stays}
 use Rattle.model.proofs.Reachable.{Good, additionOf}
 
--- A write that stands in an order is the same event in the graph that has grown.
-pub listed-event-stays : {g : Graph} → WellFormed g → (d : Addition g) (x : ℕ) (a : Id) → Member a (order g x)
-    → eventAt (grown d) a ≡ eventAt g a
-listed-event-stays f d x a m = let w = f .listed-writes x a m in event-stays d a (w .there) ∙ sym (w .there)
+-- A step of another thread leaves a thread's state.
+pub other-thread : (ts : List ThreadState) (q t : ℕ) (r : ThreadState) → q ≢ t
+    → getD (set ts q r) t startThread ≡ getD ts t startThread
+other-thread ts q t r n = getD-set-other ts q t r startThread (λ k. n (sym k))
 
 -- Additions by two different threads commute where the orders do.
 pub extend-commutes : (g : Graph) (t q : ℕ) (e f : Event) (x y : ℕ) (l l′ m m′ : List Id) → t ≢ q
@@ -42,7 +41,7 @@ module _ {p : Program} {s : State} {q t : ℕ} (f : Good p s) (a : Access p s q)
     (n : q ≢ t) where
   pub thread-unmoved : threadOf (stateAfter a) t ≡ threadOf s t
   unfolding stateAfter
-  thread-unmoved = getD-set-other (s .threads) q t (a .effect .after) startThread (λ k. n (sym k))
+  thread-unmoved = other-thread (s .threads) q t (a .effect .after) n
 
   pub value-unmoved : Member (b .picked) (order (s .graph) (b .location))
       → valueOf (stateAfter a .graph) (b .picked) ≡ valueOf (s .graph) (b .picked)
@@ -97,7 +96,7 @@ module _ {p : Program} {s : State} {q t : ℕ} (f : Good p s) (a : Access p s q)
         record {
           location = a .location;
           effects = a .effects;
-          line = ap (nextLine p q) (getD-set-other (s .threads) t q (b .effect .after) startThread n) ∙ a .line;
+          line = ap (nextLine p q) (other-thread (s .threads) t q (b .effect .after) (λ k. n (sym k))) ∙ a .line;
           before = w .front;
           picked = w .final;
           after = [];

@@ -4,7 +4,7 @@ use mathlib.Core.List.{List, [], _∷_, _++_, List·Memᴰ as Member}
 use Prim.Native.Nat.{ℕ}
 use Rattle.relations.specs.Closure.{edge, further}
 use Rattle.relations.proofs.Laws.{closure-joins}
-use Rattle.relations.proofs.Lists.{same-last, regroup-snoc, member-put-in}
+use Rattle.lists.proofs.Ends.{same-last, regroup-snoc, member-put-in}
 use Rattle.program.specs.Program.{Program}
 use Rattle.program.specs.Thread.{Kind}
 use Rattle.model.specs.Graph.{Id, order}

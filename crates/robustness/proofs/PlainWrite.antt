@@ -7,8 +7,8 @@ use native.Mathlib.Omega.{arith}
 use lib.Dec.{eqb}
 use lib.ListN.{getElem?}
 use Rattle.program.specs.Program.{Program, Line, linesOf, sum, equal, less, jump, write, read, fadd, cas, wait, bcas}
-use Rattle.program.specs.Thread.{ThreadState, reads, writes, updates, Effect, local, access}
-use Rattle.program.specs.Thread.{onward, load, operand, does, doesAt, nextLine}
+use Rattle.program.specs.Thread.{ThreadState, reads, writes, updates, Effect, local, access, onward, load, operand}
+use Rattle.program.specs.Thread.{does, doesAt, nextLine}
 
 same-effects : {x y : ℕ} {f g : ℕ → Option Effect} → access x f ≡ access y g → (u : ℕ) → f u ≡ g u
 same-effects {f = f} {g = g} q u = let h : f ≡ g = cc in λ i. h i u

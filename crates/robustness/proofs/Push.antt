@@ -9,22 +9,21 @@ use mathlib.Core.Logic.{_⊎_, inl, inr, ⊎-elim, _≢_}
 use Prim.Native.Nat.{ℕ}
 use native.Mathlib.Omega.{arith}
 use native.Mathlib.Decide.{ℕ-discrete}
-use Rattle.relations.proofs.Lists.{Snoc, empty-or-snoc, snoc-not-nil, split-of-snoc, member-put-in}
+use Rattle.lists.proofs.Ends.{Snoc, empty-or-snoc, split-of-snoc, member-put-in, split-not-nil}
 use Rattle.program.specs.Program.{Program}
 use Rattle.program.specs.Thread.{ThreadState, Action, reads, writes, updates, nextLine, local, writing}
 use Rattle.model.specs.Graph.{Id, order, isUpdate, valueOf, nextId, eventOf, directlyAfter}
-use Rattle.model.specs.Run.{State, threadOf, Access, graphAfter, stateAfter, afterLocal, startsWithUpdate}
-use Rattle.model.specs.Run.{Allowed}
+use Rattle.model.specs.Run.{State, threadOf, Access, graphAfter, stateAfter, afterLocal, startsWithUpdate, Allowed}
 use Rattle.model.specs.Run.{localStep, accessStep, ScStep}
-use Rattle.model.proofs.Growth.{Addition, newId, upToPicked, old-order, order-here, order-written, written}
-use Rattle.model.proofs.Growth.{writing-cases, new-there}
+use Rattle.model.proofs.Growth.{Addition, newId, written, writing-cases, new-there, order-grown}
 use Rattle.model.proofs.Reachable.{Good, additionOf}
 use Rattle.robustness.proofs.Seen.{happens-seen-grows}
-use Rattle.robustness.proofs.Exchange.{listed-event-stays, thread-unmoved, value-unmoved, pulled, Swap, second}
-use Rattle.robustness.proofs.Exchange.{exchanged}
-use Rattle.robustness.proofs.Swaps.{split-elsewhere, swap-elsewhere, split-unwritten, rest-unwritten}
-use Rattle.robustness.proofs.Swaps.{SameThere, unwritten, older, plain, swap-here}
-use Rattle.robustness.proofs.Diamond.{other-thread, before-local, local-after}
+use Rattle.robustness.proofs.Exchange.{thread-unmoved, value-unmoved, pulled, Swap, second, exchanged}
+use Rattle.robustness.proofs.Exchange.{other-thread}
+use Rattle.robustness.proofs.Swaps.{split-elsewhere, swap-elsewhere, split-unwritten, rest-unwritten, SameThere}
+use Rattle.robustness.proofs.Swaps.{unwritten, older, plain, swap-here}
+use Rattle.robustness.proofs.Diamond.{before-local, local-after}
+use Rattle.model.proofs.WellFormed.{listed-event-stays}
 
 -- The access b of t at s′, made at s before the step of q from s to s′.
 pub record Pushed (p : Program) (q t : ℕ) (s s′ : State) (b : Access p s′ t) : Type 0 where
@@ -108,23 +107,20 @@ module _ {p : Program} {s : State} {q t : ℕ} (f : Good p s) (n : q ≢ t) wher
     push-written : a .location ≡ b .location → writing (a .effect .action) ≡ true → Pushed p q t s (stateAfter a) b
     unfolding stateAfter graphAfter startsWithUpdate d
     push-written k w =
-        ⊎-elim (λ e. absurd (snoc-not-nil (stale .front) (stale .final) (sym (e .0) ∙ stale .whole)))
+        ⊎-elim (λ e. absurd (split-not-nil (stale .front) (stale .final) [] (sym (e .0) ∙ stale .whole)))
         (λ e. go (e .0) (e .1) (e .2))
-        (split-of-snoc (b .before) (b .picked) (b .after) (upToPicked d) (newId d)
-        (sym (b .split) ∙ ap (order (graphAfter a)) (sym k) ∙ order-here d ∙ order-written d w
-        ∙ ap (λ l. upToPicked d ++ newId d ∷ l) newest))
+        (split-of-snoc (b .before) (b .picked) (b .after) (order (s .graph) (a .location)) (newId d)
+        (sym (b .split) ∙ ap (order (graphAfter a)) (sym k) ∙ order-grown d newest w))
       where
         go : (earlier : List Id) → b .after ≡ earlier ++ newId d ∷ []
-            → b .before ++ b .picked ∷ earlier ≡ upToPicked d → Pushed p q t s (stateAfter a) b
+            → b .before ++ b .picked ∷ earlier ≡ order (s .graph) (a .location) → Pushed p q t s (stateAfter a) b
         go earlier e o =
             pushed earlier _ split rest
             (swap-here f a newest b n k earlier split rest
             (same (empty-or-snoc earlier) (writing-cases (b .effect .action))))
           where
             split : order (s .graph) (b .location) ≡ b .before ++ b .picked ∷ earlier
-            split =
-                ap (order (s .graph)) (sym k) ∙ old-order d ∙ ap (λ l. upToPicked d ++ l) newest
-                ∙ append-nil (upToPicked d) ∙ sym o
+            split = ap (order (s .graph)) (sym k) ∙ sym o
 
             rest : b .after ≡ earlier ++ directlyAfter (a .effect .action) (nextId (s .graph) q) []
             rest = e ∙ ap (λ l. earlier ++ l) (sym (written (a .effect .action) (nextId (s .graph) q) [] w))

@@ -5,7 +5,7 @@ use mathlib.Core.Logic.{inl, inr, ⊎-elim}
 use Prim.Native.Nat.{ℕ, zero, suc}
 use native.Mathlib.Omega.{arith}
 use Rattle.relations.specs.Closure.{IsOrBefore}
-use Rattle.relations.proofs.Lists.{Snoc, empty-or-snoc, member-put-in}
+use Rattle.lists.proofs.Ends.{Snoc, empty-or-snoc, member-put-in}
 use Rattle.program.specs.Program.{Program}
 use Rattle.program.specs.Thread.{kindOf}
 use Rattle.model.specs.Graph.{valueOf}

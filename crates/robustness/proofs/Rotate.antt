@@ -9,21 +9,20 @@ use native.Mathlib.Decide.{ℕ-discrete}
 use lib.ListN.{length, length-append}
 use Rattle.relations.specs.Closure.{edge, IsOrBefore}
 use Rattle.relations.proofs.Laws.{before-joins}
-use Rattle.relations.proofs.Lists.{same-last, regroup-snoc}
+use Rattle.lists.proofs.Ends.{same-last, regroup-snoc}
 use Rattle.program.specs.Thread.{writing}
 use Rattle.program.specs.Program.{Program}
 use Rattle.model.specs.Graph.{Id, Graph, order, threadEvents}
 use Rattle.model.specs.Order.{ScEdge, ScOrder}
-use Rattle.model.specs.Run.{State, startState, Access, graphAfter, stateAfter, afterLocal, localStep}
-use Rattle.model.specs.Run.{accessStep}
+use Rattle.model.specs.Run.{State, startState, Access, graphAfter, stateAfter, afterLocal, localStep, accessStep}
 use Rattle.model.specs.Run.{ScStep, ScRun, noStep, andStep}
 use Rattle.model.proofs.Growth.{Addition, newId, grown, upToPicked, OrderAfter, unchanged, putIn, order-after}
-use Rattle.model.proofs.Growth.{writing-cases, sc-order-grows}
+use Rattle.model.proofs.Growth.{writing-cases, sc-order-grows, new-is-own}
 use Rattle.model.proofs.Start.{start-orders}
 use Rattle.model.proofs.Reachable.{Good, additionOf, start-good, step-good, access-good}
 use Rattle.model.proofs.Decidable.{dec-sc-reaches}
-use Rattle.robustness.proofs.Seen.{Seen, step-seen-grows, new-is-own, new-is-seen, seen-before-new}
-use Rattle.robustness.proofs.Seen.{conflict-after-write, conflict-after-read}
+use Rattle.robustness.proofs.Seen.{Seen, step-seen-grows, new-is-seen, seen-before-new, conflict-after-write}
+use Rattle.robustness.proofs.Seen.{conflict-after-read}
 use Rattle.robustness.proofs.Diamond.{Swapped, swap-local, swap-before-local, swap-other-location, swap-reads}
 
 -- An SC run of n steps.
@@ -67,7 +66,7 @@ module _ {p : Program} {s s″ : State} {q t : ℕ} {v : Id} (f : Good p s) (n :
       conflict h =
           unseen
           (subst⁻¹ (λ (c : State). Seen (c .graph) t v) e
-          (seen-through d d′ h (seen-before-new d (f .wellFormed) seen)))
+          (seen-through d d′ h (seen-before-new d seen)))
 
       by-reads : a .location ≡ b .location
           → (writing (a .effect .action) ≡ true) ⊎ (writing (a .effect .action) ≡ false)

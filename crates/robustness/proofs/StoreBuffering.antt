@@ -9,16 +9,16 @@ use native.Mathlib.Omega.{arith}
 use Rattle.relations.proofs.Laws.{last-edge}
 use Rattle.relations.specs.Closure.{IsOrBefore, edge, further, here, Reaches}
 use Rattle.program.specs.Program.{Program, constant, write, read}
-use Rattle.program.specs.Thread.{ThreadState, load, Read, reads, writes, nextLine, doesAt, does, operand, kindOf, writing}
-use Rattle.model.specs.Graph.{Id, start, event, writeE, startGraph, eventAt, below, threadEvents, valueWritten}
-use Rattle.model.specs.Graph.{sourceOf}
+use Rattle.program.specs.Thread.{ThreadState, load, Read, reads, writes, nextLine, doesAt, does, operand, kindOf}
+use Rattle.program.specs.Thread.{writing}
+use Rattle.model.specs.Graph.{Id, start, event, startGraph, eventAt, below, threadEvents, valueWritten, sourceOf}
 use Rattle.model.specs.Graph.{eventOf, directlyAfter, extend}
 use Rattle.model.specs.Order.{HappensEdge, HappensBefore, starting, within, threadOrder, readsFrom, at, happensBefore}
 use Rattle.model.specs.Order.{fromRead, ScOrder}
 use Rattle.model.specs.Run.{startState, Access, graphAfter, stateAfter, accessStep, noStep, andStep, ScRun}
 use Rattle.model.specs.Witness.{Witness, NotRobust}
-use Rattle.model.proofs.Lookup.{reading-event, start-is}
 use Rattle.robustness.proofs.NotRobust.{witness-not-robust}
+use Rattle.model.proofs.StartsFirst.{nothing-happens-before-start}
 
 -- "SB: x := 1; read y ‖ y := 1; read x; K = 2."
 pub sb : Program
@@ -124,18 +124,6 @@ into-y {a} {b} (readsFrom h) q =
     let z : _≡_ {A = ℕ} 0 1 = cc h′ in
     omega arith)
 
-into-start : {a b : Id} → HappensEdge (stateAfter writes-y .graph) a b → (x : ℕ) → b ≡ start x → ⊥
-unfolding writes-y sourceOf
-into-start (threadOrder (starting l h)) x q = let z : _≡_ {A = ℕ} 0 1 = cc in omega arith
-into-start (threadOrder (within l h)) x q = let z : _≡_ {A = ℕ} 0 1 = cc in omega arith
-into-start {a} {b} (readsFrom h) x q =
-    let e = reading-event (stateAfter writes-y .graph) (start x)
-    (subst (λ c. sourceOf (eventAt (stateAfter writes-y .graph) c) ≡ some a) q h) in
-    let w = start-is (stateAfter writes-y .graph) x (e .1) .0 in
-    let k : sourceOf (some (writeE x 0)) ≡ some a = subst (λ c. sourceOf (some c) ≡ some a) w (e .2) in
-    let z : _≡_ {A = ℕ} 0 1 = cc k in
-    omega arith
-
 x-not-before-y : HappensBefore (stateAfter writes-y .graph) (event 0 0) (event 1 0) → ⊥
 x-not-before-y h = go (e .2)
   where
@@ -148,7 +136,8 @@ x-not-before-y h = go (e .2)
 
     go : IsOrBefore (HappensBefore (stateAfter writes-y .graph)) (event 0 0) (e .0) → ⊥
     go (inl q) = let z : _≡_ {A = ℕ} 0 1 = cc (r .1) in omega arith
-    go (inr w) = let k = last-edge w in into-start (k .1) (r .0) (r .1)
+    go (inr w) =
+        nothing-happens-before-start (r .0) (subst (HappensBefore (stateAfter writes-y .graph) (event 0 0)) (r .1) w)
 
 -- The second thread has not seen the write of x.
 x-unseen : (v : Id) → Member v (event 0 0 ∷ [])

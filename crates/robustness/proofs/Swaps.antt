@@ -6,17 +6,18 @@ use mathlib.Core.List.{List, [], _∷_, _++_, append-nil, append-assoc, List·Me
 use mathlib.Core.Logic.{_⊎_, inl, inr, ⊎-elim, _≢_}
 use Prim.Native.Nat.{ℕ}
 use lib.ListN.{set}
-use lib.Seq.{set-comm, set-set}
-use Rattle.relations.proofs.Lists.{Snoc, split-has-last, same-last, regroup-snoc, regroup-after, member-put-in}
+use lib.Seq.{set-comm, set-set, append-snoc}
+use Rattle.lists.proofs.Ends.{Snoc, split-has-last, same-last, regroup-snoc, member-put-in}
 use Rattle.program.specs.Program.{Program}
 use Rattle.program.specs.Thread.{Action, reads, writes, updates, writing}
 use Rattle.model.specs.Graph.{Id, Graph, order, valueWritten, valueOf, nextId, eventOf, directlyAfter}
 use Rattle.model.specs.Run.{State, threadOf, Access, graphAfter, stateAfter}
 use Rattle.model.proofs.Lookup.{other-order, new-order}
-use Rattle.model.proofs.Growth.{hasLocation, not-written, order-here, order-unwritten}
+use Rattle.model.proofs.Growth.{hasLocation, not-written, picked-last, order-kept}
 use Rattle.model.proofs.Reachable.{Good, additionOf}
-use Rattle.robustness.proofs.Exchange.{listed-event-stays, pulled, Swap}
+use Rattle.robustness.proofs.Exchange.{pulled, Swap}
 use Rattle.robustness.proofs.PlainWrite.{plain-write-ignores}
+use Rattle.model.proofs.WellFormed.{listed-event-stays}
 
 pub directly-after-append : (a : Action) (e : Id) (l m : List Id)
     → directlyAfter a e (l ++ m) ≡ directlyAfter a e l ++ m
@@ -28,7 +29,7 @@ directly-after-append (updates v) e l m = refl
 module _ {p : Program} {s : State} {q t : ℕ} (f : Good p s) (a : Access p s q) (newest : a .after ≡ [])
     (b : Access p (stateAfter a) t) (n : q ≢ t) where
   split-newest : order (s .graph) (a .location) ≡ a .before ++ a .picked ∷ []
-  split-newest = a .split ∙ ap (λ l. a .before ++ a .picked ∷ l) newest
+  split-newest = picked-last (additionOf f a) newest
 
   module _ (earlier : List Id) (split : order (s .graph) (b .location) ≡ b .before ++ b .picked ∷ earlier) where
     -- The value of the write that the SC access picked, after the other access.
@@ -70,7 +71,7 @@ module _ {p : Program} {s : State} {q t : ℕ} (f : Good p s) (a : Access p s q)
       → order (s .graph) (b .location) ≡ b .before ++ b .picked ∷ b .after
   unfolding stateAfter graphAfter
   split-unwritten k w =
-      ap (order (s .graph)) (sym k) ∙ sym (order-here (additionOf f a) ∙ order-unwritten (additionOf f a) w)
+      ap (order (s .graph)) (sym k) ∙ sym (order-kept (additionOf f a) w (a .location))
       ∙ ap (order (graphAfter a)) k ∙ b .split
 
   pub rest-unwritten : writing (a .effect .action) ≡ false → (l : List Id)
@@ -187,7 +188,7 @@ module _ {p : Program} {s : State} {q t : ℕ} (f : Good p s) (a : Access p s q)
 
         together : r .front ++ r .final ∷ newA ≡ placed (b .after)
         together =
-            sym (regroup-after (r .front) (r .final) newA) ∙ ap (λ l. l ++ newA) (sym (r .whole))
+            sym (append-snoc (r .front) (r .final) newA) ∙ ap (λ l. l ++ newA) (sym (r .whole))
             ∙ append-assoc (b .before)
             (b .picked ∷ directlyAfter (b .effect .action) (nextId (s .graph) t) earlier) newA
             ∙ ap (λ l. b .before ++ b .picked ∷ l)

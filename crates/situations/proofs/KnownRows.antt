@@ -9,15 +9,15 @@ use Rattle.sets.specs.Sets.{insert, remove, join}
 use Rattle.program.specs.Thread.{writing}
 use Rattle.model.specs.Graph.{Graph, below, valueOf, valueWritten}
 use Rattle.model.specs.Readable.{newest, accesses}
-use Rattle.model.proofs.Start.{row-of-below}
+use Rattle.model.proofs.Below.{row-of-below}
 use Rattle.model.proofs.Growth.{Addition, hasLocation, newEvent, grown, new-there}
 use Rattle.model.proofs.WellFormed.{WellFormed}
 use Rattle.situations.specs.Situation.{known}
-use Rattle.situations.proofs.StepRows.{rows-same, row-set, row-changed-and-set}
-use Rattle.situations.proofs.StepGrowth.{ownEvents, others-stay, own-joins, newest-stays, newest-joins}
-use Rattle.situations.proofs.StepGrowth.{accesses-stay, accesses-join, newest-kept, newest-elsewhere}
-use Rattle.situations.proofs.StepGrowth.{newest-is-new, value-kept}
 use Rattle.situations.proofs.KnownSets.{read-stays, read-joins, read-joins-beside, write-stays, write-joins}
+use Rattle.situations.proofs.Rows.{rows-same, row-set, row-changed-and-set}
+use Rattle.situations.proofs.Newest.{newest-kept, newest-elsewhere, new-is-newest, value-kept}
+use Rattle.situations.proofs.StepGrowth.{ownEvents, others-stay, own-joins, newest-stays, newest-joins}
+use Rattle.situations.proofs.StepGrowth.{accesses-stay, accesses-join}
 
 -- The value of location y, and what is known to thread u, to the newest write of y, and to the accesses to y.
 abbrev valueAt : Graph → ℕ → ℕ
@@ -72,27 +72,27 @@ module _ {g : Graph} (f : WellFormed g) (d : Addition g) (last : d .after ≡ []
 
     pub values-after-read : valueRow L (grown d) ≡ valueRow L g
     values-after-read =
-        rows-same L (valueAt (grown d)) (valueAt g) (λ y l. value-stays y l (newest-kept f d last read y))
+        rows-same L (valueAt (grown d)) (valueAt g) (λ y l. value-stays y l (newest-kept d read y))
 
     pub threads-after-read : threadRow T L (grown d) ≡ set (threadRow T L g) (d .thread) seenByRead
     threads-after-read =
         row-set T (toThread L (grown d)) (toThread L g) (d .thread) seenByRead
-        (λ u l n. read-stays f d last size read (others-stay f d u n))
-        (λ l. read-joins f d last size read (own-joins f d) (λ b. Memᴰ·append-left _) ∙ sym seen-by-read)
+        (λ u l n. read-stays f d last size read (others-stay d u n))
+        (λ l. read-joins f d last size read (own-joins d) (λ b. Memᴰ·append-left _) ∙ sym seen-by-read)
 
     pub newest-after-read : newestRow L (grown d) ≡ newestRow L g
     newest-after-read =
         rows-same L (toNewest L (grown d)) (toNewest L g)
         (λ y l. read-stays f d last size read
-        (newest-stays f d y (subst⁻¹ (λ n. y < n) size l) (newest-kept f d last read y)))
+        (newest-stays d f y (subst⁻¹ (λ n. y < n) size l) (newest-kept d read y)))
 
     pub accesses-after-read : accessRow L (grown d)
         ≡ set (accessRow L g) (d .location) (join (getD (accessRow L g) (d .location) 0) seenByRead)
     accesses-after-read =
         row-set L (toAccess L (grown d)) (toAccess L g) (d .location)
         (join (getD (accessRow L g) (d .location) 0) seenByRead)
-        (λ y l n. read-stays f d last size read (accesses-stay f d y n))
-        (λ l. read-joins-beside f d last size read (accesses-join f d) ∙ sym (ap₂ join access-entry seen-by-read))
+        (λ y l n. read-stays f d last size read (accesses-stay d y n))
+        (λ l. read-joins-beside f d last size read (accesses-join d) ∙ sym (ap₂ join access-entry seen-by-read))
 
   module _ (write : writing (d .action) ≡ true) where
     -- What the thread, its write and the accesses to the location know then.
@@ -112,28 +112,28 @@ module _ {g : Graph} (f : WellFormed g) (d : Addition g) (last : d .after ≡ []
     values-after-write =
         row-set L (valueAt (grown d)) (valueAt g) (d .location) (valueWritten (some (newEvent d)))
         (λ y l n. value-stays y l (newest-elsewhere d y n))
-        (λ l. ap (valueOf (grown d)) (newest-is-new f d last write) ∙ ap valueWritten (new-there d))
+        (λ l. ap (valueOf (grown d)) (new-is-newest d last write) ∙ ap valueWritten (new-there d))
 
     pub threads-after-write : threadRow T L (grown d) ≡ set (without (threadRow T L g)) (d .thread) seenByWrite
     threads-after-write =
         row-changed-and-set T (toThread L (grown d)) (toThread L g) (λ n. remove n (d .location))
         (d .thread) seenByWrite
-        (λ u l n. write-stays f d last size write (others-stay f d u n))
-        (λ l. write-joins f d last size write (own-joins f d) (λ b. Memᴰ·append-left _) ∙ sym seen-by-write)
+        (λ u l n. write-stays f d last size write (others-stay d u n))
+        (λ l. write-joins f d last size write (own-joins d) (λ b. Memᴰ·append-left _) ∙ sym seen-by-write)
 
     pub newest-after-write : newestRow L (grown d) ≡ set (without (newestRow L g)) (d .location) seenByWrite
     newest-after-write =
         row-changed-and-set L (toNewest L (grown d)) (toNewest L g) (λ n. remove n (d .location))
         (d .location) seenByWrite
         (λ y l n. write-stays f d last size write
-        (newest-stays f d y (subst⁻¹ (λ m. y < m) size l) (newest-elsewhere d y n)))
-        (λ l. write-joins f d last size write (newest-joins f d (d .location) (newest-is-new f d last write))
+        (newest-stays d f y (subst⁻¹ (λ m. y < m) size l) (newest-elsewhere d y n)))
+        (λ l. write-joins f d last size write (newest-joins d (d .location) (new-is-newest d last write))
         (λ b m. absurd (List·Memᴰ·not-nil m)) ∙ sym seen-by-write)
 
     pub accesses-after-write : accessRow L (grown d) ≡ set (without (accessRow L g)) (d .location) seenByWrite
     accesses-after-write =
         row-changed-and-set L (toAccess L (grown d)) (toAccess L g) (λ n. remove n (d .location))
         (d .location) seenByWrite
-        (λ y l n. write-stays f d last size write (accesses-stay f d y n))
-        (λ l. write-joins f d last size write (accesses-join f d) (λ b. Memᴰ·append-right (ownEvents g (d .thread)))
+        (λ y l n. write-stays f d last size write (accesses-stay d y n))
+        (λ l. write-joins f d last size write (accesses-join d) (λ b. Memᴰ·append-right (ownEvents g (d .thread)))
         ∙ sym seen-by-write)

@@ -1,15 +1,14 @@
 -- The locations known to a list of events after an SC step.
 use mathlib.Core.Path.{_≡_, refl, sym, ap, _∙_, subst, subst⁻¹}
-use mathlib.Core.Bool.{Bool, true, false, not, _||_, _&&_, decide}
+use mathlib.Core.Bool.{Bool, true, false, not, _||_, _&&_, decide, decide-iff}
 use mathlib.Core.List.{List, [], _∷_, _++_, List·Memᴰ as Member, Memᴰ·append-left, Memᴰ·append-right}
-use mathlib.Core.List.{List·Memᴰ·append-cases}
 use mathlib.Core.Logic.{_⊎_, inl, inr, ⊎-elim, _≢_}
 use Prim.Native.Nat.{ℕ, _<_}
 use native.Mathlib.Decide.{ℕ-discrete}
 use borrow.Author.Tests.{eq-eqb, ne-eqb}
 use lib.Dec.{eqb}
 use lib.ListN.{length}
-use Rattle.relations.specs.Closure.{Relation, Reaches}
+use Rattle.relations.specs.Closure.{Reaches}
 use Rattle.relations.proofs.Sink.{old-way, sink-has-no-way-out}
 use Rattle.sets.specs.Sets.{insert, remove, join, setOf}
 use Rattle.sets.proofs.SetOf.{setOf-same, insert-setOf, remove-setOf, join-setOf}
@@ -22,11 +21,13 @@ use Rattle.model.proofs.Growth.{Addition, hasLocation, newId, grown, sc-order-g
 use Rattle.model.proofs.WellFormed.{WellFormed}
 use Rattle.model.proofs.Sinks.{sc-sink}
 use Rattle.situations.specs.Situation.{known}
-use Rattle.situations.proofs.StepDecisions.{decide-yes, decide-no, decide-same, decide-or}
-use Rattle.situations.proofs.StepGrowth.{ownEvents, Stays, Joins, newest-elsewhere, newest-not-new}
-use Rattle.situations.proofs.StepGrowth.{newest-picked, newest-is-new, newest-kept}
 use Rattle.situations.proofs.KnownSink.{Touches, before-new-event, reaches-new-event, write-touches}
 use Rattle.situations.proofs.KnownSink.{read-touches}
+use Rattle.situations.proofs.Decisions.{decide-no, decide-same, decide-or}
+use Rattle.situations.proofs.StepGrowth.{ownEvents, Stays, Joins}
+use Rattle.situations.proofs.Newest.{newest-elsewhere, newest-kept, newest-not-new, picked-is-newest}
+use Rattle.situations.proofs.Newest.{new-is-newest}
+use Rattle.relations.proofs.Laws.{reaches-moves, reaches-more, reaches-append-cases}
 
 -- It is decided that a is, or comes in SC order before, one of the events.
 abbrev pub knows : Graph → List Id → Id → Bool
@@ -36,64 +37,46 @@ knows g es a = decide (dec-sc-reaches g es a)
 abbrev knowsOf : Graph → List Id → ℕ → Bool
 knowsOf g es y = knows g es (newest g y)
 
-reaches-more : {A : Type 0} {R : Relation A} {es fs : List A} {a : A} → ((b : A) → Member b es → Member b fs)
-    → Reaches R es a → Reaches R fs a
-reaches-more h r = record { target = r .target; listed = h (r .target) (r .listed); way = r .way }
-
 module _ (g : Graph) where
   pub known-to-both : (es fs : List Id) (a : Id) → knows g (es ++ fs) a ≡ (knows g es a || knows g fs a)
   known-to-both es fs a =
-      decide-or (dec-sc-reaches g es a) (dec-sc-reaches g fs a) (dec-sc-reaches g (es ++ fs) a)
-      (λ r. ⊎-elim (λ m. inl (record { target = r .target; listed = m; way = r .way }))
-      (λ m. inr (record { target = r .target; listed = m; way = r .way })) (List·Memᴰ·append-cases es (r .listed)))
-      (⊎-elim (reaches-more (λ b. Memᴰ·append-left fs)) (reaches-more (λ b. Memᴰ·append-right es)))
+      decide-or (dec-sc-reaches g es a) (dec-sc-reaches g fs a) (dec-sc-reaches g (es ++ fs) a) (
+        reaches-append-cases es fs,
+        ⊎-elim (reaches-more (λ b. Memᴰ·append-left fs)) (reaches-more (λ b. Memᴰ·append-right es)),
+      )
 
   -- What is known to some of the events is known to all.
   known-to-more : (es fs : List Id) (a : Id) → ((b : Id) → Member b es → Member b fs)
       → (knows g es a || knows g fs a) ≡ knows g fs a
   known-to-more es fs a h =
-      sym (decide-or (dec-sc-reaches g es a) (dec-sc-reaches g fs a) (dec-sc-reaches g fs a) inr
-      (⊎-elim (reaches-more h) (λ r. r)))
+      sym (decide-or (dec-sc-reaches g es a) (dec-sc-reaches g fs a) (dec-sc-reaches g fs a)
+      (inr, ⊎-elim (reaches-more h) (λ r. r)))
 
 module _ {g : Graph} (f : WellFormed g) (d : Addition g) (last : d .after ≡ []) where
-  stays-known : {es es′ : List Id} → Stays f d es es′ → (a : Id) → knows (grown d) es′ a ≡ knows g es a
+  stays-known : {es es′ : List Id} → Stays d es es′ → (a : Id) → knows (grown d) es′ a ≡ knows g es a
   stays-known {es} {es′} stays a =
-      decide-same (dec-sc-reaches (grown d) es′ a) (dec-sc-reaches g es a) into out
-    where
-      into : Reaches (ScOrder (grown d)) es′ a → Reaches (ScOrder g) es a
-      into r =
-          let m = stays .back (r .target) (r .listed) in
-          record {
-            target = r .target;
-            listed = m;
-            way = ⊎-elim inl (λ w. inr (old-way (sc-sink f d last) (stays .old (r .target) m) w)) (r .way);
-          }
+      decide-same (dec-sc-reaches (grown d) es′ a) (dec-sc-reaches g es a) (
+        reaches-moves (λ b m. let k = stays .back b m in (k, old-way (sc-sink f d last) (stays .old b k))),
+        reaches-moves (λ b m. (stays .kept b m, sc-order-grows d)),
+      )
 
-      out : Reaches (ScOrder g) es a → Reaches (ScOrder (grown d)) es′ a
-      out r =
-          record {
-            target = r .target;
-            listed = stays .kept (r .target) (r .listed);
-            way = ⊎-elim inl (λ w. inr (sc-order-grows d w)) (r .way);
-          }
-
-  stays-without-new : {es es′ : List Id} → Stays f d es es′ → knows (grown d) es′ (newId d) ≡ false
+  stays-without-new : {es es′ : List Id} → Stays d es es′ → knows (grown d) es′ (newId d) ≡ false
   stays-without-new {es} {es′} stays =
       stays-known stays (newId d)
       ∙ decide-no (dec-sc-reaches g es (newId d))
       (λ r. ⊎-elim (λ q. stays .old (r .target) (r .listed) (sym q))
       (λ w. sink-has-no-way-out (sc-sink f d last) (sc-order-grows d w)) (r .way))
 
-  joins-with-new : {es es′ : List Id} → Joins f d es es′ → knows (grown d) es′ (newId d) ≡ true
+  joins-with-new : {es es′ : List Id} → Joins d es es′ → knows (grown d) es′ (newId d) ≡ true
   joins-with-new {es} {es′} joins =
-      decide-yes (dec-sc-reaches (grown d) es′ (newId d))
+      decide-iff (dec-sc-reaches (grown d) es′ (newId d)) .1
       (record { target = newId d; listed = joins .new; way = inl refl })
 
-  joins-known : {es es′ ts : List Id} → Joins f d es es′ → Touches f d ts → (a : Id) → (a ≡ newId d → ⊥)
+  joins-known : {es es′ ts : List Id} → Joins d es es′ → Touches d ts → (a : Id) → (a ≡ newId d → ⊥)
       → knows (grown d) es′ a ≡ (knows g es a || knows g (ownEvents g (d .thread) ++ ts) a)
   joins-known {es} {es′} {ts} joins touches a n =
       decide-or (dec-sc-reaches g es a) (dec-sc-reaches g (ownEvents g (d .thread) ++ ts) a)
-      (dec-sc-reaches (grown d) es′ a) into (⊎-elim old new)
+      (dec-sc-reaches (grown d) es′ a) (into, ⊎-elim old new)
     where
       into : Reaches (ScOrder (grown d)) es′ a
           → Reaches (ScOrder g) es a ⊎ Reaches (ScOrder g) (ownEvents g (d .thread) ++ ts) a
@@ -116,19 +99,14 @@ module _ {g : Graph} (f : WellFormed g) (d : Addition g) (last : d .after ≡ []
               })
 
       old : Reaches (ScOrder g) es a → Reaches (ScOrder (grown d)) es′ a
-      old r =
-          record {
-            target = r .target;
-            listed = joins .kept (r .target) (r .listed);
-            way = ⊎-elim inl (λ w. inr (sc-order-grows d w)) (r .way);
-          }
+      old = reaches-moves (λ b m. (joins .kept b m, sc-order-grows d))
 
       new : Reaches (ScOrder g) (ownEvents g (d .thread) ++ ts) a → Reaches (ScOrder (grown d)) es′ a
       new r =
           record { target = newId d; listed = joins .new; way = inr (reaches-new-event f d last touches r) }
 
   -- What joins is a list of events that the new one comes after anyway.
-  joins-known-within : {es es′ ts : List Id} → Joins f d es es′ → Touches f d ts
+  joins-known-within : {es es′ ts : List Id} → Joins d es es′ → Touches d ts
       → ((b : Id) → Member b es → Member b (ownEvents g (d .thread) ++ ts)) → (a : Id) → (a ≡ newId d → ⊥)
       → knows (grown d) es′ a ≡ (knows g (ownEvents g (d .thread)) a || knows g ts a)
   joins-known-within {es} {es′} {ts} joins touches within a n =
@@ -141,22 +119,22 @@ module _ {g : Graph} (f : WellFormed g) (d : Addition g) (last : d .after ≡ []
 
     -- After a read: the new event knows what its thread and the newest write of the location know.
     module _ (read : writing (d .action) ≡ false) where
-      touched-newest : Touches f d (newest g (d .location) ∷ [])
-      touched-newest = subst⁻¹ (λ w. Touches f d (w ∷ [])) (newest-picked f d last) (read-touches f d last read)
+      touched-newest : Touches d (newest g (d .location) ∷ [])
+      touched-newest = subst⁻¹ (λ w. Touches d (w ∷ [])) (picked-is-newest d last) (read-touches f d last read)
 
       after-read : (es′ : List Id) (k : ℕ → Bool) → ((y : ℕ) → y < L → knows (grown d) es′ (newest g y) ≡ k y)
           → known L (grown d) es′ ≡ setOf L k
       unfolding known
       after-read es′ k h =
           setOf-same L (λ y. knows (grown d) es′ (newest (grown d) y)) k
-          (λ y l. ap (knows (grown d) es′) (newest-kept f d last read y) ∙ h y l)
+          (λ y l. ap (knows (grown d) es′) (newest-kept d read y) ∙ h y l)
 
-      pub read-stays : {es es′ : List Id} → Stays f d es es′ → known L (grown d) es′ ≡ known L g es
+      pub read-stays : {es es′ : List Id} → Stays d es es′ → known L (grown d) es′ ≡ known L g es
       unfolding known
       read-stays {es} {es′} stays =
           after-read es′ (knowsOf g es) (λ y l. stays-known stays (newest g y))
 
-      pub read-joins : {es es′ : List Id} → Joins f d es es′
+      pub read-joins : {es es′ : List Id} → Joins d es es′
           → ((b : Id) → Member b es → Member b (ownEvents g (d .thread) ++ newest g (d .location) ∷ []))
           → known L (grown d) es′
           ≡ join (known L g (ownEvents g (d .thread))) (known L g (newest g (d .location) ∷ []))
@@ -168,7 +146,7 @@ module _ {g : Graph} (f : WellFormed g) (d : Addition g) (last : d .after ≡ []
           ∙ sym (join-setOf L (knowsOf g (ownEvents g (d .thread))) (knowsOf g (newest g (d .location) ∷ [])))
 
       -- An access that is not the newest write keeps what it knows.
-      pub read-joins-beside : {es es′ : List Id} → Joins f d es es′
+      pub read-joins-beside : {es es′ : List Id} → Joins d es es′
           → known L (grown d) es′
           ≡ join (known L g es) (join (known L g (ownEvents g (d .thread))) (known L g (newest g (d .location) ∷ [])))
       unfolding known
@@ -194,12 +172,12 @@ module _ {g : Graph} (f : WellFormed g) (d : Addition g) (last : d .after ≡ []
           go : (y : ℕ) → y < L → Dec (y ≡ d .location) → knows (grown d) es′ (newest (grown d) y) ≡ k y
           go y l (yes q) =
               ap (λ z. knows (grown d) es′ (newest (grown d) z)) q
-              ∙ ap (knows (grown d) es′) (newest-is-new f d last write)
+              ∙ ap (knows (grown d) es′) (new-is-newest d last write)
               ∙ here
               ∙ ap k (sym q)
           go y l (no n) = ap (knows (grown d) es′) (newest-elsewhere d y n) ∙ elsewhere y l n
 
-      pub write-stays : {es es′ : List Id} → Stays f d es es′
+      pub write-stays : {es es′ : List Id} → Stays d es es′
           → known L (grown d) es′ ≡ remove (known L g es) (d .location)
       unfolding known
       write-stays {es} {es′} stays =
@@ -210,7 +188,7 @@ module _ {g : Graph} (f : WellFormed g) (d : Addition g) (last : d .after ≡ []
           ∙ sym (ap (λ b. not b && knowsOf g es y) (ne-eqb (d .location) y (λ q. n (sym q)))))
           ∙ sym (remove-setOf L (knowsOf g es) (d .location))
 
-      pub write-joins : {es es′ : List Id} → Joins f d es es′
+      pub write-joins : {es es′ : List Id} → Joins d es es′
           → ((b : Id) → Member b es → Member b (ownEvents g (d .thread) ++ accesses g (d .location)))
           → known L (grown d) es′
           ≡ insert (join (known L g (ownEvents g (d .thread))) (known L g (accesses g (d .location)))) (d .location)

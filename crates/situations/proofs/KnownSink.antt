@@ -6,26 +6,25 @@ use mathlib.Core.List.{List, [], _∷_, _++_, List·Memᴰ as Member, List·Mem�
 use mathlib.Core.List.{List·Memᴰ·append-cases, List·Memᴰ·eq-of-singleton, List·Memᴰ·not-nil}
 use mathlib.Core.Option.{some}
 use mathlib.Core.Logic.{_⊎_, inl, inr, ⊎-elim}
-use Prim.Native.Nat.{ℕ, _<_}
+use Prim.Native.Nat.{ℕ}
 use native.Mathlib.Omega.{arith}
-use lib.ListN.{length}
-use Rattle.relations.specs.Closure.{Relation, Closure, edge, IsOrBefore, Reaches, Precedes}
-use Rattle.relations.proofs.Laws.{before-joins}
+use Rattle.relations.specs.Closure.{edge, IsOrBefore, Reaches, Precedes}
+use Rattle.relations.proofs.Laws.{is-or-before-joins}
 use Rattle.relations.proofs.Sink.{before-sink, reach-sink}
-use Rattle.relations.proofs.Lists.{precedes-members, precedes-put-in, length-of-snoc}
+use Rattle.relations.proofs.Precedes.{precedes-members, precedes-put-in}
 use Rattle.program.specs.Thread.{writing}
-use Rattle.model.specs.Graph.{Id, event, Event, readE, writeE, updateE, Graph, eventsOf, order, eventAt}
-use Rattle.model.specs.Graph.{sourceOf, locationOf, threadEvents}
+use Rattle.model.specs.Graph.{Id, Event, readE, writeE, updateE, Graph, order, eventAt, sourceOf, locationOf}
+use Rattle.model.specs.Graph.{threadEvents}
 use Rattle.model.specs.Readable.{starts, accesses}
-use Rattle.model.specs.Order.{ThreadOrder, starting, within, ModificationOrder, at, FromRead, HappensEdge, threadOrder}
-use Rattle.model.specs.Order.{readsFrom, HappensBefore, ScEdge, happensBefore, modificationOrder, fromRead, ScOrder}
-use Rattle.model.proofs.Lookup.{own-event, same-locations, reading-event, present-not-next, own-events}
-use Rattle.model.proofs.Growth.{Addition, in-order, newId, newEvent, newOrder, grown, upToPicked, order-here}
-use Rattle.model.proofs.Growth.{order-written, member-old-or-new, precedes-old-or-new, new-there}
-use Rattle.model.proofs.Growth.{there-old-or-new, event-stays}
-use Rattle.model.proofs.WellFormed.{WellFormed, writesTo, listed-not-next, new-source}
+use Rattle.model.specs.Order.{ThreadOrder, ModificationOrder, at, FromRead, HappensEdge, threadOrder, readsFrom}
+use Rattle.model.specs.Order.{HappensBefore, ScEdge, happensBefore, modificationOrder, fromRead, ScOrder}
+use Rattle.model.proofs.Lookup.{reading-event, present-not-next}
+use Rattle.model.proofs.Growth.{Addition, in-order, newId, grown, upToPicked, member-old-or-new, precedes-old-or-new}
+use Rattle.model.proofs.Growth.{new-there, there-old-or-new, event-stays, picked-last, order-put-in}
+use Rattle.model.proofs.WellFormed.{WellFormed, writesTo, new-source, new-unlisted}
 use Rattle.model.proofs.Sinks.{happens-sink, sc-sink, one-location}
-use Rattle.model.proofs.NewEdges.{thread-order-in-sc, own-before-new, picked-before-new}
+use Rattle.model.proofs.NewEdges.{thread-order-in-sc, own-before-new, picked-before-new, start-before-new}
+use Rattle.model.proofs.NewEdges.{in-thread-before-new}
 use Rattle.situations.proofs.StepLists.{is-access, access-is, start-listed, listed-start}
 use Rattle.situations.proofs.StepGrowth.{ownEvents}
 
@@ -46,64 +45,48 @@ happens-in-sc : {g : Graph} {a b : Id} → IsOrBefore (HappensBefore g) a b → 
 happens-in-sc (inl q) = inl q
 happens-in-sc (inr h) = inr (edge (happensBefore h))
 
-is-or-before-joins : {A : Type 0} {R : Relation A} {a b c : A} → IsOrBefore (Closure R) a b → IsOrBefore (Closure R) b c
-    → IsOrBefore (Closure R) a c
-is-or-before-joins {R = R} {a = a} h (inl q) = subst (IsOrBefore (Closure R) a) q h
-is-or-before-joins h (inr w) = inr (before-joins h w)
+-- Beside its thread's events and the starts, the new event comes directly after those of the list.
+pub record Touches {g : Graph} (d : Addition g) (es : List Id) : Type 0 where
+  pub has-picked : Member (d .picked) es
+  pub has-readers : (b : Id) → FromRead (grown d) b (newId d) → Member b es
+  pub before-new : (b : Id) → Member b es → ScEdge (grown d) b (newId d)
 
 module _ {g : Graph} (f : WellFormed g) (d : Addition g) where
-  -- Beside its thread's events and the starts, the new event comes directly after those of the list.
-  pub record Touches (es : List Id) : Type 0 where
-    pub has-picked : Member (d .picked) es
-    pub has-readers : (b : Id) → FromRead (grown d) b (newId d) → Member b es
-    pub before-new : (b : Id) → Member b es → ScEdge (grown d) b (newId d)
-
-  thread-source : {a b : Id} → ThreadOrder (grown d) a b → b ≡ newId d → Member a (ownEvents g (d .thread))
-  thread-source (starting {x = x} l h) q =
-      Memᴰ·append-right (threadEvents g (d .thread))
-      (start-listed g x
-      (subst (λ n. x < n) (same-locations g (d .thread) (newEvent d) (d .location) (newOrder d)) l))
-  thread-source (within {t = u} {i = i} {j = j} l h) q =
-      let q₁ : u ≡ d .thread = cc in
-      let q₂ : j ≡ length (eventsOf g (d .thread)) = cc in
-      Memᴰ·append-left (starts g)
-      (subst⁻¹ (λ v. Member (event v i) (threadEvents g (d .thread))) q₁ (own-event g (d .thread) i (omega arith)))
+  thread-source : {a : Id} → ThreadOrder (grown d) a (newId d) → Member a (ownEvents g (d .thread))
+  thread-source h =
+      ⊎-elim
+      (λ s. Memᴰ·append-right (threadEvents g (d .thread))
+      (subst⁻¹ (λ b. Member b (starts g)) (s .2) (start-listed g (s .0) (s .1))))
+      (Memᴰ·append-left (starts g)) (in-thread-before-new d h refl)
 
   module _ (last : d .after ≡ []) where
-    last-there : order g (d .location) ≡ d .before ++ d .picked ∷ []
-    last-there = d .split ∙ ap (λ l. d .before ++ d .picked ∷ l) last
-
     -- What the new event stands behind in an order is a write to its location, which it writes.
     new-stands-last : {a : Id} → ModificationOrder (grown d) a (newId d)
         → (writing (d .action) ≡ true) × Member a (order g (d .location))
     new-stands-last {a} (at y h) =
-        let n = ⊎-elim (λ k. k) (λ k. absurd (unlisted y k))
+        let n = ⊎-elim (λ k. k) (λ k. absurd (new-unlisted f d y k))
         (member-old-or-new d y (precedes-members (order (grown d) y) h .1)) in (
           n .2,
-          ⊎-elim (λ k. absurd (unlisted y (precedes-members (order g y) k .1)))
+          ⊎-elim (λ k. absurd (new-unlisted f d y (precedes-members (order g y) k .1)))
               (⊎-elim (λ k. absurd (List·Memᴰ·not-nil (subst (Member (newId d)) last (k .1))))
-              (λ k. subst⁻¹ (Member a) last-there (k .2)))
+              (λ k. subst⁻¹ (Member a) (picked-last d last) (k .2)))
               (precedes-old-or-new d y h),
         )
-      where
-        unlisted : (y : ℕ) → Member (newId d) (order g y) → ⊥
-        unlisted y m = listed-not-next f (d .thread) y (newId d) m refl
 
     listed-before-picked : {a : Id} → Member a (order g (d .location)) → IsOrBefore (ScOrder g) a (d .picked)
     listed-before-picked {a} m =
         ⊎-elim
         (λ k. inr (edge (modificationOrder (at (d .location)
-        (subst⁻¹ (Precedes a (d .picked)) last-there (precedes-put-in (d .before) (d .picked) [] k))))))
+        (subst⁻¹ (Precedes a (d .picked)) (picked-last d last) (precedes-put-in (d .before) (d .picked) [] k))))))
         (λ k. inl (List·Memᴰ·eq-of-singleton k))
-        (List·Memᴰ·append-cases (d .before) (subst (Member a) last-there m))
+        (List·Memᴰ·append-cases (d .before) (subst (Member a) (picked-last d last) m))
 
-    module _ {es : List Id} (touches : Touches es) where
-      reached : List Id
+    module _ {es : List Id} (touches : Touches d es) where
+      abbrev reached : List Id
       reached = ownEvents g (d .thread) ++ es
 
       happens-source : {a : Id} → HappensEdge (grown d) a (newId d) → Member a reached
-      unfolding reached
-      happens-source (threadOrder h) = Memᴰ·append-left es (thread-source h refl)
+      happens-source (threadOrder h) = Memᴰ·append-left es (thread-source h)
       happens-source {a} (readsFrom h) =
           Memᴰ·append-right (ownEvents g (d .thread))
           (subst⁻¹ (λ w. Member w es)
@@ -111,7 +94,6 @@ module _ {g : Graph} (f : WellFormed g) (d : Addition g) where
           (touches .has-picked))
 
       sc-source : {b : Id} → ScEdge (grown d) b (newId d) → Reaches (ScOrder g) reached b
-      unfolding reached
       sc-source (happensBefore h) =
           let r = before-sink (happens-sink f d) h in
           record { target = r .0; listed = happens-source (r .1); way = happens-in-sc (r .2) }
@@ -128,45 +110,30 @@ module _ {g : Graph} (f : WellFormed g) (d : Addition g) where
             way = inl refl;
           }
 
-      pub before-new-event : {a : Id} → ScOrder (grown d) a (newId d)
-          → Reaches (ScOrder g) (ownEvents g (d .thread) ++ es) a
-      unfolding reached
+      pub before-new-event : {a : Id} → ScOrder (grown d) a (newId d) → Reaches (ScOrder g) reached a
       before-new-event h =
           let r = before-sink (sc-sink f d last) h in
           let k = sc-source (r .1) in
           record { target = k .target; listed = k .listed; way = is-or-before-joins (r .2) (k .way) }
 
-      direct : {a : Id} → Member a (ownEvents g (d .thread) ++ es) → ScEdge (grown d) a (newId d)
+      direct : {a : Id} → Member a reached → ScEdge (grown d) a (newId d)
       direct {a} m = ⊎-elim own (touches .before-new a) (List·Memᴰ·append-cases (ownEvents g (d .thread)) m)
         where
-          place-there : length (eventsOf g (d .thread)) < length (eventsOf (grown d) (d .thread))
-          place-there =
-              omega (
-                arith,
-                ap length (own-events g (d .thread) (newEvent d) (d .location) (newOrder d) (d .hasThread)),
-                length-of-snoc (eventsOf g (d .thread)) (newEvent d),
-              )
-
           begin : Member a (starts g) → ScEdge (grown d) a (newId d)
           begin k =
               let r = listed-start g k in
-              subst⁻¹ (λ b. ScEdge (grown d) b (newId d)) (r .2)
-              (thread-order-in-sc
-              (starting
-              (subst⁻¹ (λ n. r .0 < n) (same-locations g (d .thread) (newEvent d) (d .location) (newOrder d)) (r .1))
-              place-there))
+              subst⁻¹ (λ b. ScEdge (grown d) b (newId d)) (r .2) (thread-order-in-sc (start-before-new d (r .1)))
 
           own : Member a (ownEvents g (d .thread)) → ScEdge (grown d) a (newId d)
           own k =
               ⊎-elim (λ o. thread-order-in-sc (own-before-new d o)) begin
               (List·Memᴰ·append-cases (threadEvents g (d .thread)) k)
 
-      pub reaches-new-event : {a : Id} → Reaches (ScOrder g) (ownEvents g (d .thread) ++ es) a
-          → ScOrder (grown d) a (newId d)
+      pub reaches-new-event : {a : Id} → Reaches (ScOrder g) reached a → ScOrder (grown d) a (newId d)
       reaches-new-event r = reach-sink (sc-sink f d last) (direct (r .listed)) (r .way)
 
     -- A write comes after every access to its location, and a read after the newest write.
-    pub write-touches : writing (d .action) ≡ true → Touches (accesses g (d .location))
+    pub write-touches : writing (d .action) ≡ true → Touches d (accesses g (d .location))
     write-touches w = record { has-picked = picked; has-readers = readers; before-new = before }
       where
         picked : Member (d .picked) (accesses g (d .location))
@@ -186,8 +153,8 @@ module _ {g : Graph} (f : WellFormed g) (d : Addition g) where
         listed : {a : Id} → Member a (order g (d .location)) → ModificationOrder (grown d) a (newId d)
         listed {a} m =
             at (d .location)
-            (subst⁻¹ (Precedes a (newId d)) (order-here d ∙ order-written d w)
-            (precedes-put-in (upToPicked d) (newId d) (d .after) (subst (Member a) last-there m)))
+            (subst⁻¹ (Precedes a (newId d)) (order-put-in d w)
+            (precedes-put-in (upToPicked d) (newId d) (d .after) (subst (Member a) (picked-last d last) m)))
 
         before : (b : Id) → Member b (accesses g (d .location)) → ScEdge (grown d) b (newId d)
         before b m = go (reads-or-writes (r .0))
@@ -213,7 +180,7 @@ module _ {g : Graph} (f : WellFormed g) (d : Addition g) where
                 (f .writes-listed (d .location) b
                 (record { write = r .0; there = r .1; to = k ∙ ap some (r .2) })))
 
-    pub read-touches : writing (d .action) ≡ false → Touches (d .picked ∷ [])
+    pub read-touches : writing (d .action) ≡ false → Touches d (d .picked ∷ [])
     read-touches w =
         record {
           has-picked = List·Memᴰ·head refl;

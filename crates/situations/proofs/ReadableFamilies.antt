@@ -1,26 +1,22 @@
 -- The families of sets of values before and after an SC step, for each thread and for each location's newest write.
 use mathlib.Core.Path.{_≡_, sym, ap, ap₂, _∙_, subst, subst⁻¹}
 use mathlib.Core.Bool.{Bool, true, false}
-use mathlib.Core.List.{List, [], _∷_, map, map-map, List·Memᴰ·eq-of-singleton}
-use mathlib.Core.Logic.{_≢_}
+use mathlib.Core.List.{List, [], _∷_, map}
 use Prim.Native.Nat.{ℕ, _<_}
 use lib.ListN.{length, set}
 use Rattle.program.specs.Thread.{writing}
 use Rattle.rules.specs.Update.{rowOf, staleAt, ownRow}
-use Rattle.model.specs.Graph.{Id, Graph, below, threadEvents, valueOf}
+use Rattle.model.specs.Graph.{Graph, below, threadEvents, valueOf}
 use Rattle.model.specs.Readable.{newest}
-use Rattle.model.proofs.Lookup.{other-threads-events}
-use Rattle.model.proofs.Start.{row-of-below}
-use Rattle.model.proofs.Growth.{Addition, newId, newEvent, newOrder, grown, hasLocation}
-use Rattle.model.proofs.WellFormed.{WellFormed, listed-not-next}
-use Rattle.situations.proofs.ReadableLists.{below-same, below-changed}
-use Rattle.situations.proofs.ReadableStarts.{newest-listed}
-use Rattle.situations.proofs.ReadableSink.{Old, seenByNew, thread-events-old, thread-new, alone-new}
+use Rattle.model.proofs.Growth.{Addition, newId, grown, hasLocation, others-ids-stay}
+use Rattle.model.proofs.WellFormed.{WellFormed}
 use Rattle.situations.proofs.ReadableOverwritten.{keeps}
-use Rattle.situations.proofs.ReadableNewest.{order-elsewhere, order-after-read, newest-kept, picked-is-newest}
-use Rattle.situations.proofs.ReadableNewest.{new-is-newest}
-use Rattle.situations.proofs.ReadableRows.{row, metRow, staleRow, row-of-sources, row-kept, row-by-new}
-use Rattle.situations.proofs.ReadableRows.{row-stale, own-row}
+use Rattle.situations.proofs.ReadableRows.{row, metRow, row-of-sources, row-kept, row-by-new, row-stale, own-row}
+use Rattle.situations.proofs.ReadableSink.{seenByNew, thread-new, alone-new}
+use Rattle.situations.proofs.Rows.{rows-same, row-set, row-changed-and-set}
+use Rattle.situations.proofs.StepGrowth.{thread-events-old, newest-old}
+use Rattle.situations.proofs.Newest.{newest-elsewhere, newest-kept, picked-is-newest, new-is-newest}
+use Rattle.model.proofs.Below.{row-of-below}
 
 -- The rows of T threads, and of the newest writes of L locations.
 abbrev pub byThread : (K L T : ℕ) → Graph → (leave : Bool) → List (List ℕ)
@@ -31,10 +27,8 @@ byNewest K L g leave = map (λ x. row K L g leave (newest g x ∷ [])) (below L)
 
 module _ {g : Graph} (f : WellFormed g) (d : Addition g) (none : d .after ≡ []) (K L T : ℕ) (leave : Bool)
     (locations : length (g .orders) ≡ L) (hasThread : d .thread < T) where
-  newest-old : (z : ℕ) → z < L → Old f d (newest g z ∷ [])
-  newest-old z l b m q =
-      listed-not-next f (d .thread) z (newest g z) (newest-listed f z (subst⁻¹ (λ n. z < n) locations l))
-      (sym (List·Memᴰ·eq-of-singleton m) ∙ q)
+  location-there : {z : ℕ} → z < L → z < length (g .orders)
+  location-there {z} l = subst⁻¹ (λ n. z < n) locations l
 
   hasPlace : d .location < L
   hasPlace = subst (λ n. d .location < n) locations (hasLocation d)
@@ -43,7 +37,7 @@ module _ {g : Graph} (f : WellFormed g) (d : Addition g) (none : d .after ≡ []
   abbrev newRow : List ℕ
   newRow = metRow (d .action) (rowOf (byThread K L T g leave) (d .thread)) (rowOf (byNewest K L g leave) (d .location))
 
-  new-row : row K L g leave (seenByNew f d) ≡ newRow
+  new-row : row K L g leave (seenByNew d) ≡ newRow
   new-row =
       row-of-sources K L g leave (threadEvents g (d .thread)) (d .picked) (d .action)
       ∙ ap₂ (metRow (d .action))
@@ -52,54 +46,42 @@ module _ {g : Graph} (f : WellFormed g) (d : Addition g) (none : d .after ≡ []
       (row-of-below (λ z. row K L g leave (newest g z ∷ [])) [] L (d .location) hasPlace
       ∙ ap (λ b. row K L g leave (b ∷ [])) (picked-is-newest d none)))
 
-  thread-elsewhere : (t : ℕ) → t ≢ d .thread → threadEvents (grown d) t ≡ threadEvents g t
-  thread-elsewhere = other-threads-events g (d .thread) (newEvent d) (d .location) (newOrder d)
-
   module _ (r : writing (d .action) ≡ false) where
     pub threads-after-read : byThread K L T (grown d) leave ≡ set (byThread K L T g leave) (d .thread) newRow
     threads-after-read =
-        below-changed _ (λ t. row K L (grown d) leave (threadEvents (grown d) t)) T (d .thread) newRow
-        (row-by-new f d K L leave r (threadEvents (grown d) (d .thread)) (thread-new f d) ∙ new-row)
-        (λ t k n. ap (row K L (grown d) leave) (thread-elsewhere t n)
-        ∙ row-kept f d K L leave r (threadEvents g t) (thread-events-old f d t))
+        row-set T (λ t. row K L (grown d) leave (threadEvents (grown d) t)) _ (d .thread) newRow
+        (λ t k n. ap (row K L (grown d) leave) (others-ids-stay d t n)
+        ∙ row-kept f d K L leave r (threadEvents g t) (thread-events-old d t))
+        (λ k. row-by-new f d K L leave r (threadEvents (grown d) (d .thread)) (thread-new d) ∙ new-row)
 
     pub newest-after-read : byNewest K L (grown d) leave ≡ byNewest K L g leave
     newest-after-read =
-        below-same _ _ L
-        (λ z l. ap (λ b. row K L (grown d) leave (b ∷ [])) (newest-kept d z (order-after-read d r z))
-        ∙ row-kept f d K L leave r (newest g z ∷ []) (newest-old z l))
+        rows-same L _ _
+        (λ z l. ap (λ b. row K L (grown d) leave (b ∷ [])) (newest-kept d r z)
+        ∙ row-kept f d K L leave r (newest g z ∷ []) (newest-old d f z (location-there l)))
 
   module _ (w : writing (d .action) ≡ true) (bound : valueOf g (d .picked) < K) where
-    stale-family : (h : ℕ → List Id) (n : ℕ)
-        → map (λ i. staleRow (d .location) (keeps leave (d .action)) (valueOf g (d .picked)) (row K L g leave (h i)))
-        (below n)
-        ≡ staleAt (d .location) (keeps leave (d .action)) (valueOf g (d .picked))
-        (map (λ i. row K L g leave (h i)) (below n))
-    unfolding staleAt
-    stale-family h n =
-        sym (map-map (staleRow (d .location) (keeps leave (d .action)) (valueOf g (d .picked))) _ (below n))
-
     pub threads-after-write : byThread K L T (grown d) leave
         ≡ set
         (staleAt (d .location) (keeps leave (d .action)) (valueOf g (d .picked)) (byThread K L T g leave))
         (d .thread) (ownRow (d .location) newRow)
+    unfolding staleAt
     threads-after-write =
-        below-changed _ (λ t. row K L (grown d) leave (threadEvents (grown d) t)) T (d .thread) _
-        (own-row f d K L leave none w (threadEvents (grown d) (d .thread)) (thread-new f d)
+        row-changed-and-set T (λ t. row K L (grown d) leave (threadEvents (grown d) t)) _ _ (d .thread) _
+        (λ t k n. ap (row K L (grown d) leave) (others-ids-stay d t n)
+        ∙ row-stale f d K L leave none w (threadEvents g t) (thread-events-old d t) hasPlace bound)
+        (λ k. own-row f d K L leave none w (threadEvents (grown d) (d .thread)) (thread-new d)
         ∙ ap (ownRow (d .location)) new-row)
-        (λ t k n. ap (row K L (grown d) leave) (thread-elsewhere t n)
-        ∙ row-stale f d K L leave none w (threadEvents g t) (thread-events-old f d t) hasPlace bound)
-        ∙ ap (λ l. set l (d .thread) (ownRow (d .location) newRow)) (stale-family (threadEvents g) T)
 
     pub newest-after-write : byNewest K L (grown d) leave
         ≡ set
         (staleAt (d .location) (keeps leave (d .action)) (valueOf g (d .picked)) (byNewest K L g leave))
         (d .location) (ownRow (d .location) newRow)
+    unfolding staleAt
     newest-after-write =
-        below-changed _ (λ z. row K L (grown d) leave (newest (grown d) z ∷ [])) L (d .location) _
-        (ap (λ b. row K L (grown d) leave (b ∷ [])) (new-is-newest d none w)
-        ∙ own-row f d K L leave none w (newId d ∷ []) (alone-new f d)
+        row-changed-and-set L (λ z. row K L (grown d) leave (newest (grown d) z ∷ [])) _ _ (d .location) _
+        (λ z k n. ap (λ b. row K L (grown d) leave (b ∷ [])) (newest-elsewhere d z n)
+        ∙ row-stale f d K L leave none w (newest g z ∷ []) (newest-old d f z (location-there k)) hasPlace bound)
+        (λ k. ap (λ b. row K L (grown d) leave (b ∷ [])) (new-is-newest d none w)
+        ∙ own-row f d K L leave none w (newId d ∷ []) (alone-new d)
         ∙ ap (ownRow (d .location)) new-row)
-        (λ z k n. ap (λ b. row K L (grown d) leave (b ∷ [])) (newest-kept d z (order-elsewhere d z n))
-        ∙ row-stale f d K L leave none w (newest g z ∷ []) (newest-old z k) hasPlace bound)
-        ∙ ap (λ l. set l (d .location) (ownRow (d .location) newRow)) (stale-family (λ z. newest g z ∷ []) L)

@@ -2,21 +2,20 @@
 -- new write can read an older one.
 use mathlib.Core.Path.{_≡_, refl, sym, ap, _∙_, subst, subst⁻¹}
 use mathlib.Core.Bool.{Bool, true, false, not, true≢false}
-use mathlib.Core.List.{List, [], _∷_, _++_, List·Memᴰ as Member, List·Memᴰ·head, List·Memᴰ·tail}
-use mathlib.Core.List.{List·Memᴰ·append-cases, Memᴰ·append-left, Memᴰ·append-right, List·Memᴰ·eq-of-singleton, cons≢nil}
+use mathlib.Core.List.{List, [], _∷_, _++_, List·Memᴰ as Member, List·Memᴰ·head, List·Memᴰ·tail, List·Memᴰ·append-cases}
+use mathlib.Core.List.{Memᴰ·append-left, Memᴰ·append-right, List·Memᴰ·eq-of-singleton, cons≢nil}
 use mathlib.Core.Option.{some}
 use mathlib.Core.Logic.{_⊎_, inl, inr, ⊎-elim, _↔_}
 use Prim.Native.Nat.{ℕ}
-use Rattle.relations.proofs.Lists.{split-of-snoc, same-last, regroup-snoc, snoc-not-nil}
+use Rattle.lists.proofs.Ends.{split-of-snoc, same-last, regroup-snoc, split-not-nil}
 use Rattle.program.specs.Thread.{Action, reads, writes, updates, writing}
-use Rattle.model.specs.Graph.{Id, Graph, order, eventAt, valueWritten, valueOf, isUpdate, eventOf}
+use Rattle.model.specs.Graph.{Id, Graph, order, valueWritten, valueOf, isUpdate, eventOf}
 use Rattle.model.specs.Run.{startsWithUpdate}
 use Rattle.model.specs.Readable.{Readable}
-use Rattle.model.proofs.Growth.{Addition, in-order, newId, newEvent, grown, new-there}
-use Rattle.model.proofs.Growth.{event-stays}
-use Rattle.model.proofs.WellFormed.{WellFormed}
-use Rattle.situations.proofs.ReadableNewest.{picked-last, order-grown}
-use Rattle.situations.proofs.ReadableSink.{Seen, Old, seen-kept, new-unseen}
+use Rattle.model.proofs.Growth.{Addition, in-order, newId, newEvent, grown, new-there, picked-last, order-grown}
+use Rattle.model.proofs.WellFormed.{WellFormed, listed-event-stays}
+use Rattle.situations.proofs.ReadableSink.{Seen, seen-kept, new-unseen}
+use Rattle.situations.proofs.StepGrowth.{Old}
 
 -- Whether a write that the action overwrites may still be picked: with leave, not before a read-modify-write.
 unfoldable pub keeps : (leave : Bool) → Action → Bool
@@ -33,19 +32,16 @@ keeps-unfollowed true (updates v) x u w = (λ k l. absurd (true≢false (sym k))
 keeps-unfollowed false (updates v) x u w = (λ k l. absurd (true≢false (sym l)), λ h. refl)
 
 module _ {g : Graph} (f : WellFormed g) (d : Addition g) where
-  pub listed-kept : (y : ℕ) (v : Id) → Member v (order g y) → eventAt g v ≡ eventAt (grown d) v
-  listed-kept y v m = let w = f .listed-writes y v m in w .there ∙ sym (event-stays d v (w .there))
-
   module _ (newest : d .after ≡ []) (w : writing (d .action) ≡ true) where
-    value-kept : {v : Id} → Member v (order g (d .location)) → valueOf g v ≡ valueOf (grown d) v
-    value-kept {v} m = ap valueWritten (listed-kept (d .location) v m)
+    value-kept : {v : Id} → Member v (order g (d .location)) → valueOf (grown d) v ≡ valueOf g v
+    value-kept {v} m = ap valueWritten (listed-event-stays f d (d .location) v m)
 
     first-kept : (m k : List Id) → (m ≡ [] → ⊥) → ((v : Id) → Member v m → Member v (order g (d .location)))
         → startsWithUpdate (grown d) (m ++ k) ≡ startsWithUpdate g m
     unfolding startsWithUpdate
     first-kept [] k n e = absurd (n refl)
     first-kept (v ∷ m) k n e =
-        sym (ap isUpdate (listed-kept (d .location) v (e v (List·Memᴰ·head refl))))
+        ap isUpdate (listed-event-stays f d (d .location) v (e v (List·Memᴰ·head refl)))
 
     -- An older write has the new one after it.
     new-after : {es : List Id} {leave : Bool} {u : ℕ} (r : Readable (grown d) es leave (d .location) u)
@@ -62,7 +58,7 @@ module _ {g : Graph} (f : WellFormed g) (d : Addition g) where
         r .unseen (newId d) (subst⁻¹ (Member (newId d)) (a .1) (Memᴰ·append-right (a .0) (List·Memᴰ·head refl)))
         (record { target = newId d; listed = m; way = inl refl })
 
-    module _ (es : List Id) (old : Old f d es) (leave : Bool) (u : ℕ) where
+    module _ (es : List Id) (old : Old d es) (leave : Bool) (u : ℕ) where
       abbrev Overwritten : Type 0
       Overwritten =
           Readable g es leave (d .location) u ⊎ ((keeps leave (d .action) ≡ true) × (valueOf g (d .picked) ≡ u))
@@ -76,7 +72,7 @@ module _ {g : Graph} (f : WellFormed g) (d : Addition g) where
             split =
                 order-grown d newest w ∙ ap (λ l. l ++ newId d ∷ []) (r .split)
                 ∙ sym (regroup-snoc (r .before) (r .write) (r .after) (newId d));
-            older = λ q. snoc-not-nil (r .after) (newId d) (sym q);
+            older = λ q. split-not-nil (r .after) (newId d) [] (sym q);
             unseen =
                 λ v m h. ⊎-elim (λ k. r .unseen v k (seen-kept f d es old v .0 h))
                 (λ k. new-unseen f d es old (subst (Seen (grown d) es) (List·Memᴰ·eq-of-singleton k) h))
@@ -84,7 +80,7 @@ module _ {g : Graph} (f : WellFormed g) (d : Addition g) where
             unfollowed =
                 λ l. first-kept (r .after) (newId d ∷ []) (r .older) (λ v m. listed v (List·Memᴰ·tail m))
                 ∙ r .unfollowed l;
-            value = sym (value-kept (listed (r .write) (List·Memᴰ·head refl))) ∙ r .value;
+            value = value-kept (listed (r .write) (List·Memᴰ·head refl)) ∙ r .value;
           }
         where
           listed : (v : Id) → Member v (r .write ∷ r .after) → Member v (order g (d .location))
@@ -106,7 +102,7 @@ module _ {g : Graph} (f : WellFormed g) (d : Addition g) where
             unfollowed =
                 λ l. ap isUpdate (new-there d)
                 ∙ keeps-unfollowed leave (d .action) (d .location) _ (d .picked) .0 (h .0) l;
-            value = sym (value-kept (in-order d)) ∙ h .1;
+            value = value-kept (in-order d) ∙ h .1;
           }
 
       was : Readable (grown d) es leave (d .location) u → Overwritten
@@ -125,9 +121,7 @@ module _ {g : Graph} (f : WellFormed g) (d : Addition g) where
               picked = same-last (d .before) (r .before) (d .picked) (r .write) (sym (picked-last d newest) ∙ sym o) .1
 
               value : valueOf g (d .picked) ≡ u
-              value =
-                  value-kept (in-order d) ∙ ap (valueOf (grown d)) picked
-                  ∙ r .value
+              value = sym (value-kept (in-order d)) ∙ ap (valueOf (grown d)) picked ∙ r .value
           go (v ∷ m) q o =
               inl
               (record {
@@ -142,9 +136,7 @@ module _ {g : Graph} (f : WellFormed g) (d : Addition g) where
                 unfollowed =
                     λ l. sym (first-kept (v ∷ m) (newId d ∷ []) cons≢nil (λ b k. listed b (List·Memᴰ·tail k)))
                     ∙ ap (startsWithUpdate (grown d)) (sym q) ∙ r .unfollowed l;
-                value =
-                    value-kept (listed (r .write) (List·Memᴰ·head refl))
-                    ∙ r .value;
+                value = sym (value-kept (listed (r .write) (List·Memᴰ·head refl))) ∙ r .value;
               })
             where
               listed : (b : Id) → Member b (r .write ∷ (v ∷ m)) → Member b (order g (d .location))

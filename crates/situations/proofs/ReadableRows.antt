@@ -9,16 +9,16 @@ use Rattle.program.specs.Thread.{Action, reads, writes, updates, writing}
 use Rattle.rules.specs.Update.{meetRows, stalen, ownRow}
 use Rattle.model.specs.Graph.{Id, Graph, below, valueOf}
 use Rattle.model.specs.Readable.{newest}
-use Rattle.model.proofs.Start.{row-of-below}
-use Rattle.model.proofs.Growth.{Addition, grown}
+use Rattle.model.proofs.Growth.{Addition, grown, order-elsewhere, order-kept}
 use Rattle.model.proofs.WellFormed.{WellFormed}
 use Rattle.situations.specs.Situation.{readable}
-use Rattle.situations.proofs.ReadableLists.{below-same, below-changed, meet-of-rows}
-use Rattle.situations.proofs.ReadableSink.{Old, New, seenByNew, sources}
-use Rattle.situations.proofs.ReadableNewest.{order-elsewhere, order-after-read}
+use Rattle.situations.proofs.ReadableSink.{New, seenByNew, sources}
 use Rattle.situations.proofs.ReadableOverwritten.{keeps}
 use Rattle.situations.proofs.ReadableSets.{readable-met, readable-kept, readable-by-new, own-empty}
 use Rattle.situations.proofs.ReadableSets.{readable-stale}
+use Rattle.situations.proofs.Rows.{rows-same, row-set, meet-of-rows}
+use Rattle.situations.proofs.StepGrowth.{Old}
+use Rattle.model.proofs.Below.{row-of-below}
 
 -- The row after the events es, in a graph with L locations.
 abbrev pub row : (K L : ℕ) → Graph → (leave : Bool) → List Id → List ℕ
@@ -37,7 +37,7 @@ staleRow x kept u r = set r x (stalen kept u (getD r x 0))
 module _ (K L : ℕ) (g : Graph) (leave : Bool) (es : List Id) (w : Id) where
   row-met : row K L g leave (es ++ w ∷ []) ≡ meetRows (row K L g leave es) (row K L g leave (w ∷ []))
   row-met =
-      below-same _ _ L (λ y l. readable-met K g leave es (w ∷ []) y)
+      rows-same L _ _ (λ y l. readable-met K g leave es (w ∷ []) y)
       ∙ sym (meet-of-rows (readable K g leave es) (readable K g leave (w ∷ [])) (below L))
 
   pub row-of-sources : (a : Action)
@@ -50,27 +50,27 @@ module _ (K L : ℕ) (g : Graph) (leave : Bool) (es : List Id) (w : Id) where
 module _ {g : Graph} (f : WellFormed g) (d : Addition g) (K L : ℕ) (leave : Bool) where
   -- After a read.
   module _ (r : writing (d .action) ≡ false) where
-    pub row-kept : (es : List Id) → Old f d es → row K L (grown d) leave es ≡ row K L g leave es
-    row-kept es old = below-same _ _ L (λ y l. readable-kept f d K leave y (order-after-read d r y) es old)
+    pub row-kept : (es : List Id) → Old d es → row K L (grown d) leave es ≡ row K L g leave es
+    row-kept es old = rows-same L _ _ (λ y l. readable-kept f d K leave y (order-kept d r y) es old)
 
-    pub row-by-new : (es : List Id) → New f d es → row K L (grown d) leave es ≡ row K L g leave (seenByNew f d)
-    row-by-new es n = below-same _ _ L (λ y l. readable-by-new f d K leave y (order-after-read d r y) es n)
+    pub row-by-new : (es : List Id) → New d es → row K L (grown d) leave es ≡ row K L g leave (seenByNew d)
+    row-by-new es n = rows-same L _ _ (λ y l. readable-by-new f d K leave y (order-kept d r y) es n)
 
   -- After a write or a read-modify-write.
   module _ (newest : d .after ≡ []) (w : writing (d .action) ≡ true) where
-    pub row-stale : (es : List Id) → Old f d es → d .location < L → valueOf g (d .picked) < K
+    pub row-stale : (es : List Id) → Old d es → d .location < L → valueOf g (d .picked) < K
         → row K L (grown d) leave es
         ≡ staleRow (d .location) (keeps leave (d .action)) (valueOf g (d .picked)) (row K L g leave es)
     row-stale es old h l =
-        below-changed (readable K g leave es) (readable K (grown d) leave es) L (d .location) _
-        (readable-stale f d newest w K leave es old l
+        row-set L (readable K (grown d) leave es) (readable K g leave es) (d .location) _
+        (λ y k n. readable-kept f d K leave y (order-elsewhere d y n) es old)
+        (λ k. readable-stale f d newest w K leave es old l
         ∙ ap (stalen (keeps leave (d .action)) (valueOf g (d .picked)))
         (sym (row-of-below (readable K g leave es) 0 L (d .location) h)))
-        (λ y k n. readable-kept f d K leave y (order-elsewhere d y n) es old)
 
-    pub own-row : (es : List Id) → New f d es
-        → row K L (grown d) leave es ≡ ownRow (d .location) (row K L g leave (seenByNew f d))
+    pub own-row : (es : List Id) → New d es
+        → row K L (grown d) leave es ≡ ownRow (d .location) (row K L g leave (seenByNew d))
     own-row es n =
-        below-changed (readable K g leave (seenByNew f d)) (readable K (grown d) leave es) L (d .location) empty
-        (own-empty f d newest w K leave es (n .has))
+        row-set L (readable K (grown d) leave es) (readable K g leave (seenByNew d)) (d .location) empty
         (λ y k m. readable-by-new f d K leave y (order-elsewhere d y m) es n)
+        (λ k. own-empty f d newest w K leave es (n .has))

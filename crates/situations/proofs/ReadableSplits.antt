@@ -1,17 +1,18 @@
 -- What could still be read, from graph to graph where a location's order is the same, and after two lists of events.
 use mathlib.Core.Path.{_≡_, refl, sym, ap, _∙_, subst⁻¹}
 use mathlib.Core.Bool.{Bool}
-use mathlib.Core.List.{List, [], _∷_, _++_, List·Memᴰ as Member, List·Memᴰ·head, List·Memᴰ·tail}
-use mathlib.Core.List.{List·Memᴰ·append-cases, Memᴰ·append-left, Memᴰ·append-right}
-use mathlib.Core.Logic.{_⊎_, inl, inr, ⊎-elim, _↔_}
+use mathlib.Core.List.{List, [], _∷_, _++_, List·Memᴰ as Member, List·Memᴰ·head, List·Memᴰ·tail, Memᴰ·append-left}
+use mathlib.Core.List.{Memᴰ·append-right}
+use mathlib.Core.Logic.{⊎-elim, _↔_}
 use Prim.Native.Nat.{ℕ}
 use Rattle.relations.specs.Closure.{Precedes}
-use Rattle.relations.proofs.Lists.{precedes-after}
+use Rattle.relations.proofs.Precedes.{precedes-after}
 use Rattle.model.specs.Graph.{Id, Graph, order, eventAt, valueWritten, isUpdate}
 use Rattle.model.specs.Run.{startsWithUpdate}
 use Rattle.model.specs.Readable.{Readable}
-use Rattle.situations.proofs.ReadableLists.{splits-nest}
 use Rattle.situations.proofs.ReadableSink.{Seen}
+use Rattle.relations.proofs.Laws.{reaches-more, reaches-append-cases}
+use Rattle.lists.proofs.Ends.{splits-nest}
 
 module _ {g g′ : Graph} (es es′ : List Id) (leave : Bool) (y u : ℕ) (same-order : order g y ≡ order g′ y)
     (same-events : (v : Id) → Member v (order g y) → eventAt g v ≡ eventAt g′ v)
@@ -44,17 +45,6 @@ module _ {g g′ : Graph} (es es′ : List Id) (leave : Bool) (y u : ℕ) (same-
 
 -- What could be read after two lists of events, is what could be read after each.
 module _ (g : Graph) (es es′ : List Id) (leave : Bool) (y u : ℕ) where
-  seen-left : {v : Id} → Seen g es v → Seen g (es ++ es′) v
-  seen-left r = record { target = r .target; listed = Memᴰ·append-left es′ (r .listed); way = r .way }
-
-  seen-right : {v : Id} → Seen g es′ v → Seen g (es ++ es′) v
-  seen-right r = record { target = r .target; listed = Memᴰ·append-right es (r .listed); way = r .way }
-
-  seen-cases : {v : Id} → Seen g (es ++ es′) v → Seen g es v ⊎ Seen g es′ v
-  seen-cases r =
-      ⊎-elim (λ m. inl (record { target = r .target; listed = m; way = r .way }))
-      (λ m. inr (record { target = r .target; listed = m; way = r .way })) (List·Memᴰ·append-cases es (r .listed))
-
   unseen-by-both : (bs : List Id) (r : Readable g bs leave y u)
       → ((v : Id) → Member v (r .after) → Seen g es v → ⊥) → ((v : Id) → Member v (r .after) → Seen g es′ v → ⊥)
       → Readable g (es ++ es′) leave y u
@@ -65,7 +55,7 @@ module _ (g : Graph) (es es′ : List Id) (leave : Bool) (y u : ℕ) where
         after = r .after;
         split = r .split;
         older = r .older;
-        unseen = λ v m h. ⊎-elim (n v m) (n′ v m) (seen-cases h);
+        unseen = λ v m h. ⊎-elim (n v m) (n′ v m) (reaches-append-cases es es′ h);
         unfollowed = r .unfollowed;
         value = r .value;
       }
@@ -75,8 +65,10 @@ module _ (g : Graph) (es es′ : List Id) (leave : Bool) (y u : ℕ) where
     where
       parts : Readable g (es ++ es′) leave y u → Readable g es leave y u × Readable g es′ leave y u
       parts r = (
-        readable-moves (es ++ es′) es leave y u refl (λ v m. refl) (λ a v h. seen-left) r,
-        readable-moves (es ++ es′) es′ leave y u refl (λ v m. refl) (λ a v h. seen-right) r,
+        readable-moves (es ++ es′) es leave y u refl (λ v m. refl)
+            (λ a v h. reaches-more (λ b. Memᴰ·append-left es′)) r,
+        readable-moves (es ++ es′) es′ leave y u refl (λ v m. refl)
+            (λ a v h. reaches-more (λ b. Memᴰ·append-right es)) r,
       )
 
       -- What stands after the later of the two writes stands after both.

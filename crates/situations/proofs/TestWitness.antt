@@ -8,7 +8,8 @@ use mathlib.Core.Logic.{_⊎_, inl, inr, ⊎-elim, _↔_}
 use Prim.Native.Nat.{ℕ, _<_}
 use lib.ListN.{length, getD}
 use Rattle.relations.specs.Closure.{IsOrBefore, Reaches, Precedes}
-use Rattle.relations.proofs.Lists.{Snoc, empty-or-snoc, snoc-not-nil, regroup-snoc, precedes-after, row-in-range}
+use Rattle.lists.proofs.Ends.{Snoc, empty-or-snoc, regroup-snoc, split-not-nil}
+use Rattle.relations.proofs.Precedes.{precedes-after}
 use Rattle.sets.specs.Sets.{has}
 use Rattle.program.specs.Program.{Program}
 use Rattle.program.specs.Thread.{startThread, Kind, kindOf, writing, Effect, access, nextLine}
@@ -20,17 +21,18 @@ use Rattle.model.specs.Order.{ScOrder}
 use Rattle.model.specs.Run.{State, threadOf, Access}
 use Rattle.model.specs.Readable.{newest, starts, Readable}
 use Rattle.model.specs.Witness.{Witness}
-use Rattle.model.proofs.Start.{row-of-below}
 use Rattle.model.proofs.Decidable.{dec-sc-reaches}
 use Rattle.model.proofs.Choices.{dec-readable}
 use Rattle.model.proofs.WellFormed.{WellFormed}
-use Rattle.model.proofs.Reachable.{Good, has-thread, access-not-ended}
+use Rattle.model.proofs.Reachable.{Good, has-thread, access-not-ended, access-has-thread, access-has-location}
 use Rattle.situations.specs.Situation.{known, readable, situationOf}
-use Rattle.situations.proofs.ReadableLists.{member-decided}
-use Rattle.situations.proofs.ReadableStarts.{nothing-precedes-start, nothing-sc-before-start, last-is-newest}
 use Rattle.situations.proofs.ReadableSink.{Seen}
 use Rattle.situations.proofs.ReadableRows.{row}
 use Rattle.situations.proofs.ReadableFamilies.{byThread}
+use Rattle.situations.proofs.Decisions.{member-decided}
+use Rattle.situations.proofs.Newest.{last-is-newest}
+use Rattle.model.proofs.StartsFirst.{nothing-precedes-start, nothing-sc-before-start}
+use Rattle.model.proofs.Below.{row-of-below}
 
 -- A witness as a situation shows it: thread t, its kind, its location x and the stale value u.
 pub record WitnessOn (p : Program) (q : Situation) (t : ℕ) (kind : Kind) (x u : ℕ) : Type 0 where
@@ -152,12 +154,10 @@ module _ {p : Program} {s : State} (f : Good p s) {t : ℕ} {kind : Kind} {x u :
       a = w .access
 
       ht : t < length (p .threads)
-      ht = has-thread p t (threadOf s t) (access-not-ended (a .line))
+      ht = access-has-thread a
 
       hx : a .location < p .locations
-      hx =
-          subst (λ n. a .location < n) (f .locations)
-          (row-in-range (s .graph .orders) (a .location) (a .before) (a .picked) (a .after) (a .split))
+      hx = access-has-location f a
 
       reached : Reaches (ScOrder (s .graph)) (threadEvents (s .graph) t ++ starts (s .graph))
           (newest (s .graph) (a .location))
@@ -180,7 +180,7 @@ module _ {p : Program} {s : State} (f : Good p s) {t : ℕ} {kind : Kind} {x u :
             write = a .picked;
             after = a .after;
             split = a .split;
-            older = λ q. snoc-not-nil (w .stale .between) (w .stale .newest) (sym q ∙ w .stale .last);
+            older = λ q. split-not-nil (w .stale .between) (w .stale .newest) [] (sym q ∙ w .stale .last);
             unseen = w .allowed .unseen;
             unfollowed = w .allowed .unfollowed;
             value = refl;

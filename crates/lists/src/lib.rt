@@ -1,0 +1,1 @@
+// No code: laws on lists that the library lacks.
