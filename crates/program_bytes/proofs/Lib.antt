@@ -17,3 +17,4 @@ pub mod StartLaws
 pub mod Places
 pub mod Cases
 pub mod Bounds
+pub mod ValidLaws

@@ -85,3 +85,9 @@ pub record Within (p : Program) : Type 0 where
   pub some-values : minValues ≤ p .values
   pub few-values : p .values ≤ maxValues
   pub each : All (ThreadWithin (p .locations) (p .values)) (p .threads)
+
+-- A program that has the values 0 and 1, which comparisons give, and whose lines keep to its own locations, values and
+-- lines. No limits stand here.
+pub record Valid (p : Program) : Type 0 where
+  pub some-values : 2 ≤ p .values
+  pub each : All (λ (lines : List Line). All (LineWithin (p .locations) (p .values) (length lines)) lines) (p .threads)

@@ -13,8 +13,9 @@ use Rattle.program_bytes.specs.Ops.{isOp, opAt, opTable, sumOp}
 use Rattle.program_bytes.specs.Format.{startsWith, isRecord, isOperand, operand, whenUsed, zeroUnlessUsed, usesTarget}
 use Rattle.program_bytes.specs.Format.{isRegAndRest, isTarget, areOperands, fieldsToLine, readLine, readLines, readThread}
 use Rattle.program_bytes.specs.Format.{readThreads, areInRange, endsAfter, readProgram}
-use Rattle.program_bytes.specs.Spelling.{Within, operandByte, spellLine, spellLines, spellThread, spellThreads, spell}
+use Rattle.program_bytes.specs.Spelling.{Valid, operandByte, spellLine, spellLines, spellThread, spellThreads, spell}
 use Rattle.program_bytes.proofs.RoundTrip.{accepted-is-spelling}
+use Rattle.program_bytes.proofs.ValidLaws.{within-valid}
 use Rattle.model.specs.Witness.{Robust, NotRobust}
 use Rattle.rules.specs.Situation.{Situation}
 use Rattle.rules.specs.Ending.{Ending}
@@ -26,20 +27,20 @@ use Rattle.verdicts.proofs.SearchLaws.{verdict-by-search}
 use Rattle.verdicts.proofs.Promises.{closed-is-robust, found-is-not-robust}
 
 -- The verdict, computed.
-by-search : {p : Program} → Within p → (N : ℕ) → verdictOf p N ≡ searchedOn p N
+by-search : {p : Program} → Valid p → (N : ℕ) → verdictOf p N ≡ searchedOn p N
 unfolding searchedOn
-by-search within N = verdict-by-search within N
+by-search valid N = verdict-by-search valid N
 
-module _ {p : Program} (within : Within p) (N : ℕ) where
+module _ {p : Program} (valid : Valid p) (N : ℕ) where
   outcome-by-search : {o : Outcome (Entry Situation) Ending} → searchedOn p N .outcome ≡ o → verdictOf p N .outcome ≡ o
-  outcome-by-search e = ap (λ (v : Verdict (Entry Situation) Ending). v .outcome) (by-search within N) ∙ e
+  outcome-by-search e = ap (λ (v : Verdict (Entry Situation) Ending). v .outcome) (by-search valid N) ∙ e
 
   count-by-search : {n : ℕ} → length (searchedOn p N .places) ≡ n → length (verdictOf p N .places) ≡ n
-  count-by-search e = ap (λ (v : Verdict (Entry Situation) Ending). length (v .places)) (by-search within N) ∙ e
+  count-by-search e = ap (λ (v : Verdict (Entry Situation) Ending). length (v .places)) (by-search valid N) ∙ e
 
--- A program whose spelling the reader gives back is within the limits.
-spelled-within : (p : Program) → readProgram (spell p) ≡ accepted p → Within p
-spelled-within p e = accepted-is-spelling (spell p) p e .1
+-- A program whose spelling the reader gives back is valid.
+spelled-valid : (p : Program) → readProgram (spell p) ≡ accepted p → Valid p
+spelled-valid p e = within-valid (accepted-is-spelling (spell p) p e .1)
 
 abbrev two : (values : ℕ) → List Line → List Line → Program
 two K one other = record { threads = one ∷ other ∷ []; locations = 2; values = K }
@@ -65,37 +66,37 @@ unfolding spell spellThreads spellThread spellLines spellLine operandByte readPr
     isTarget areOperands whenUsed zeroUnlessUsed usesTarget isOperand operand
 reads-back p q = readProgram (spell p) ≡ accepted q
 
-within-mp : Within mp
-within-mp = spelled-within mp (unfold reads-back in refl)
+valid-mp : Valid mp
+valid-mp = spelled-valid mp (unfold reads-back in refl)
 
-within-sb : Within sb
-within-sb = spelled-within sb (unfold reads-back in refl)
+valid-sb : Valid sb
+valid-sb = spelled-valid sb (unfold reads-back in refl)
 
-within-two-writes : Within twoWrites
-within-two-writes = spelled-within twoWrites (unfold reads-back in refl)
+valid-two-writes : Valid twoWrites
+valid-two-writes = spelled-valid twoWrites (unfold reads-back in refl)
 
-within-barrier : Within barrier
-within-barrier = spelled-within barrier (unfold reads-back in refl)
+valid-barrier : Valid barrier
+valid-barrier = spelled-valid barrier (unfold reads-back in refl)
 
 -- "MP .. RB 13", with one place fewer "11, count 12".
 pub mp-counts : length (verdictOf mp 13 .places) ≡ 13
-mp-counts = count-by-search within-mp 13 (unfold searchedOn in refl)
+mp-counts = count-by-search valid-mp 13 (unfold searchedOn in refl)
 
 pub mp-full : verdictOf mp 12 .outcome ≡ full
-mp-full = outcome-by-search within-mp 12 (unfold searchedOn in refl)
+mp-full = outcome-by-search valid-mp 12 (unfold searchedOn in refl)
 
 pub mp-full-counts : length (verdictOf mp 12 .places) ≡ 12
-mp-full-counts = count-by-search within-mp 12 (unfold searchedOn in refl)
+mp-full-counts = count-by-search valid-mp 12 (unfold searchedOn in refl)
 
 pub mp-robust : Robust mp
-mp-robust = closed-is-robust within-mp 13 (outcome-by-search within-mp 13 (unfold searchedOn in refl))
+mp-robust = closed-is-robust valid-mp 13 (outcome-by-search valid-mp 13 (unfold searchedOn in refl))
 
 -- "Barrier .. RB 7."
 pub barrier-counts : length (verdictOf barrier 7 .places) ≡ 7
-barrier-counts = count-by-search within-barrier 7 (unfold searchedOn in refl)
+barrier-counts = count-by-search valid-barrier 7 (unfold searchedOn in refl)
 
 pub barrier-robust : Robust barrier
-barrier-robust = closed-is-robust within-barrier 7 (outcome-by-search within-barrier 7 (unfold searchedOn in refl))
+barrier-robust = closed-is-robust valid-barrier 7 (outcome-by-search valid-barrier 7 (unfold searchedOn in refl))
 
 -- The schedule and the ending of what was found.
 unfoldable foundBy : Outcome (Entry Situation) Ending → Option (List ℕ × Ending)
@@ -112,30 +113,30 @@ found-by (found x d) {l} {e} h =
 found-by full h = absurd (let z : _≡_ {A = ℕ} 0 1 = cc in omega arith)
 found-by closed h = absurd (let z : _≡_ {A = ℕ} 0 1 = cc in omega arith)
 
-not-robust-by-search : {p : Program} (within : Within p) (N : ℕ) (l : List ℕ) (e : Ending)
+not-robust-by-search : {p : Program} (valid : Valid p) (N : ℕ) (l : List ℕ) (e : Ending)
     → foundBy (searchedOn p N .outcome) ≡ some (l, e) → NotRobust p l (e .thread) (e .kind) (e .location) (e .value)
-not-robust-by-search {p} within N l e h =
+not-robust-by-search {p} valid N l e h =
     let (x, is, path) = found-by (searchedOn p N .outcome) h in
     subst (λ (s : List ℕ). NotRobust p s (e .thread) (e .kind) (e .location) (e .value)) path
-    (found-is-not-robust within N x e (outcome-by-search within N is))
+    (found-is-not-robust valid N x e (outcome-by-search valid N is))
 
 -- "SB .. NR, count 7": thread 2, a read of x with the stale value 0, after the steps 1, 1, 2.
 pub sb-counts : length (verdictOf sb 7 .places) ≡ 7
-sb-counts = count-by-search within-sb 7 (unfold searchedOn in refl)
+sb-counts = count-by-search valid-sb 7 (unfold searchedOn in refl)
 
 pub sb-not-robust : NotRobust sb (0 ∷ 0 ∷ 1 ∷ []) 1 Read 0 0
 sb-not-robust =
-    not-robust-by-search within-sb 7 (0 ∷ 0 ∷ 1 ∷ []) (record { thread = 1; kind = Read; location = 0; value = 0 })
+    not-robust-by-search valid-sb 7 (0 ∷ 0 ∷ 1 ∷ []) (record { thread = 1; kind = Read; location = 0; value = 0 })
     (unfold searchedOn foundBy in refl)
 
 pub sb-full : verdictOf sb 6 .outcome ≡ full
-sb-full = outcome-by-search within-sb 6 (unfold searchedOn in refl)
+sb-full = outcome-by-search valid-sb 6 (unfold searchedOn in refl)
 
 -- "2+2W .. NR 8 3 2 W 0 0 with steps 1, 1, 2."
 pub two-writes-count : length (verdictOf twoWrites 8 .places) ≡ 8
-two-writes-count = count-by-search within-two-writes 8 (unfold searchedOn in refl)
+two-writes-count = count-by-search valid-two-writes 8 (unfold searchedOn in refl)
 
 pub two-writes-not-robust : NotRobust twoWrites (0 ∷ 0 ∷ 1 ∷ []) 1 Write 0 0
 two-writes-not-robust =
-    not-robust-by-search within-two-writes 8 (0 ∷ 0 ∷ 1 ∷ [])
+    not-robust-by-search valid-two-writes 8 (0 ∷ 0 ∷ 1 ∷ [])
     (record { thread = 1; kind = Write; location = 0; value = 0 }) (unfold searchedOn foundBy in refl)
