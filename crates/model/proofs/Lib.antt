@@ -1,3 +1,4 @@
+pub mod AsWritten
 pub mod Below
 pub mod Lookup
 pub mod Growth

@@ -1,1 +1,2 @@
 pub mod NextLines
+pub mod EachOp

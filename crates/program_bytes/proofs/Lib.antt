@@ -16,3 +16,4 @@ pub mod Refusals
 pub mod StartLaws
 pub mod Places
 pub mod Cases
+pub mod Bounds

@@ -8,3 +8,4 @@ pub mod Rotate
 pub mod Push
 pub mod Robust
 pub mod StoreBuffering
+pub mod Exclude

@@ -1,2 +1,4 @@
 pub mod SearchLaws
 pub mod Promises
+pub mod Cases
+pub mod Earliest

@@ -1,0 +1,141 @@
+-- Cases of document 01 about the definitions on graphs and schedules: the verdict of MP, SB, 2+2W and the barrier, and what
+-- it says about all runs.
+use Prim.Native.Nat.{ℕ}
+use native.Mathlib.Omega.{arith}
+use mathlib.Core.Path.{_≡_, refl, ap, subst, _∙_}
+use mathlib.Core.Option.{Option, none, some}
+use mathlib.Core.List.{List, [], _∷_}
+use lib.ListN.{length}
+use Rattle.program.specs.Program.{constant, Line, write, read, wait, Program}
+use Rattle.program.specs.Thread.{Read, Write}
+use Rattle.program_bytes.specs.Outcome.{check, andThen, accepted}
+use Rattle.program_bytes.specs.Ops.{isOp, opAt, opTable, sumOp}
+use Rattle.program_bytes.specs.Format.{startsWith, isRecord, isOperand, operand, whenUsed, zeroUnlessUsed, usesTarget}
+use Rattle.program_bytes.specs.Format.{isRegAndRest, isTarget, areOperands, fieldsToLine, readLine, readLines, readThread}
+use Rattle.program_bytes.specs.Format.{readThreads, areInRange, endsAfter, readProgram}
+use Rattle.program_bytes.specs.Spelling.{Within, operandByte, spellLine, spellLines, spellThread, spellThreads, spell}
+use Rattle.program_bytes.proofs.RoundTrip.{accepted-is-spelling}
+use Rattle.model.specs.Witness.{Robust, NotRobust}
+use Rattle.rules.specs.Situation.{Situation}
+use Rattle.rules.specs.Ending.{Ending}
+use Rattle.rules.proofs.Searched.{searchedOn}
+use Rattle.numbering.specs.Numbering.{Entry}
+use Rattle.numbering.specs.Verdict.{Verdict, Outcome, found, full, closed}
+use Rattle.verdicts.specs.Search.{verdictOf}
+use Rattle.verdicts.proofs.SearchLaws.{verdict-by-search}
+use Rattle.verdicts.proofs.Promises.{closed-is-robust, found-is-not-robust}
+
+-- The verdict, computed.
+by-search : {p : Program} → Within p → (N : ℕ) → verdictOf p N ≡ searchedOn p N
+unfolding searchedOn
+by-search within N = verdict-by-search within N
+
+module _ {p : Program} (within : Within p) (N : ℕ) where
+  outcome-by-search : {o : Outcome (Entry Situation) Ending} → searchedOn p N .outcome ≡ o → verdictOf p N .outcome ≡ o
+  outcome-by-search e = ap (λ (v : Verdict (Entry Situation) Ending). v .outcome) (by-search within N) ∙ e
+
+  count-by-search : {n : ℕ} → length (searchedOn p N .places) ≡ n → length (verdictOf p N .places) ≡ n
+  count-by-search e = ap (λ (v : Verdict (Entry Situation) Ending). length (v .places)) (by-search within N) ∙ e
+
+-- A program whose spelling the reader gives back is within the limits.
+spelled-within : (p : Program) → readProgram (spell p) ≡ accepted p → Within p
+spelled-within p e = accepted-is-spelling (spell p) p e .1
+
+abbrev two : (values : ℕ) → List Line → List Line → Program
+two K one other = record { threads = one ∷ other ∷ []; locations = 2; values = K }
+
+abbrev sb : Program
+sb = two 2 (write 0 (constant 1) ∷ read 0 1 ∷ []) (write 1 (constant 1) ∷ read 0 0 ∷ [])
+
+abbrev mp : Program
+mp = two 2 (write 0 (constant 1) ∷ write 1 (constant 1) ∷ []) (read 0 1 ∷ read 1 0 ∷ [])
+
+abbrev twoWrites : Program
+twoWrites =
+    two 3 (write 0 (constant 1) ∷ write 1 (constant 2) ∷ read 0 1 ∷ [])
+    (write 1 (constant 1) ∷ write 0 (constant 2) ∷ read 0 0 ∷ [])
+
+abbrev barrier : Program
+barrier = two 2 (write 0 (constant 1) ∷ wait 1 (constant 1) ∷ []) (write 1 (constant 1) ∷ wait 0 (constant 1) ∷ [])
+
+-- Reads a spelling back, by computing.
+reads-back : Program → Program → Type 0
+unfolding spell spellThreads spellThread spellLines spellLine operandByte readProgram isRecord startsWith areInRange
+    endsAfter readThreads readThread readLines readLine fieldsToLine check andThen isOp opAt opTable sumOp isRegAndRest
+    isTarget areOperands whenUsed zeroUnlessUsed usesTarget isOperand operand
+reads-back p q = readProgram (spell p) ≡ accepted q
+
+within-mp : Within mp
+within-mp = spelled-within mp (unfold reads-back in refl)
+
+within-sb : Within sb
+within-sb = spelled-within sb (unfold reads-back in refl)
+
+within-two-writes : Within twoWrites
+within-two-writes = spelled-within twoWrites (unfold reads-back in refl)
+
+within-barrier : Within barrier
+within-barrier = spelled-within barrier (unfold reads-back in refl)
+
+-- "MP .. RB 13", with one place fewer "11, count 12".
+pub mp-counts : length (verdictOf mp 13 .places) ≡ 13
+mp-counts = count-by-search within-mp 13 (unfold searchedOn in refl)
+
+pub mp-full : verdictOf mp 12 .outcome ≡ full
+mp-full = outcome-by-search within-mp 12 (unfold searchedOn in refl)
+
+pub mp-full-counts : length (verdictOf mp 12 .places) ≡ 12
+mp-full-counts = count-by-search within-mp 12 (unfold searchedOn in refl)
+
+pub mp-robust : Robust mp
+mp-robust = closed-is-robust within-mp 13 (outcome-by-search within-mp 13 (unfold searchedOn in refl))
+
+-- "Barrier .. RB 7."
+pub barrier-counts : length (verdictOf barrier 7 .places) ≡ 7
+barrier-counts = count-by-search within-barrier 7 (unfold searchedOn in refl)
+
+pub barrier-robust : Robust barrier
+barrier-robust = closed-is-robust within-barrier 7 (outcome-by-search within-barrier 7 (unfold searchedOn in refl))
+
+-- The schedule and the ending of what was found.
+unfoldable foundBy : Outcome (Entry Situation) Ending → Option (List ℕ × Ending)
+foundBy (found x e) = some (x .path, e)
+foundBy full = none
+foundBy closed = none
+
+found-by : (o : Outcome (Entry Situation) Ending) {l : List ℕ} {e : Ending} → foundBy o ≡ some (l, e)
+    → (x : Entry Situation) × (o ≡ found x e) × (x .path ≡ l)
+unfolding foundBy
+found-by (found x d) {l} {e} h =
+    let i : _≡_ {A = List ℕ × Ending} (x .path, d) (l, e) = cc in
+    (x, ap (λ (r : List ℕ × Ending). found x (r .1)) i, ap (λ (r : List ℕ × Ending). r .0) i)
+found-by full h = absurd (let z : _≡_ {A = ℕ} 0 1 = cc in omega arith)
+found-by closed h = absurd (let z : _≡_ {A = ℕ} 0 1 = cc in omega arith)
+
+not-robust-by-search : {p : Program} (within : Within p) (N : ℕ) (l : List ℕ) (e : Ending)
+    → foundBy (searchedOn p N .outcome) ≡ some (l, e) → NotRobust p l (e .thread) (e .kind) (e .location) (e .value)
+not-robust-by-search {p} within N l e h =
+    let (x, is, path) = found-by (searchedOn p N .outcome) h in
+    subst (λ (s : List ℕ). NotRobust p s (e .thread) (e .kind) (e .location) (e .value)) path
+    (found-is-not-robust within N x e (outcome-by-search within N is))
+
+-- "SB .. NR, count 7": thread 2, a read of x with the stale value 0, after the steps 1, 1, 2.
+pub sb-counts : length (verdictOf sb 7 .places) ≡ 7
+sb-counts = count-by-search within-sb 7 (unfold searchedOn in refl)
+
+pub sb-not-robust : NotRobust sb (0 ∷ 0 ∷ 1 ∷ []) 1 Read 0 0
+sb-not-robust =
+    not-robust-by-search within-sb 7 (0 ∷ 0 ∷ 1 ∷ []) (record { thread = 1; kind = Read; location = 0; value = 0 })
+    (unfold searchedOn foundBy in refl)
+
+pub sb-full : verdictOf sb 6 .outcome ≡ full
+sb-full = outcome-by-search within-sb 6 (unfold searchedOn in refl)
+
+-- "2+2W .. NR 8 3 2 W 0 0 with steps 1, 1, 2."
+pub two-writes-count : length (verdictOf twoWrites 8 .places) ≡ 8
+two-writes-count = count-by-search within-two-writes 8 (unfold searchedOn in refl)
+
+pub two-writes-not-robust : NotRobust twoWrites (0 ∷ 0 ∷ 1 ∷ []) 1 Write 0 0
+two-writes-not-robust =
+    not-robust-by-search within-two-writes 8 (0 ∷ 0 ∷ 1 ∷ [])
+    (record { thread = 1; kind = Write; location = 0; value = 0 }) (unfold searchedOn foundBy in refl)
