@@ -75,6 +75,12 @@ module _ {A : Type 0} where
       inl (λ c h. subst (Member c) (tail-eq-of-cons-eq q) (Memᴰ·append-right l (List·Memᴰ·tail h)))
   splits-nest (d ∷ l) a m (e ∷ k) b n q = splits-nest l a m k b n (tail-eq-of-cons-eq q)
 
+  -- A list and the same with another rest have the same head, where something stands before the rest.
+  pub same-head : (l : List A) (a : A) (m k : List A) (b : A) (r : List A) → (l ++ a ∷ []) ++ m ≡ b ∷ r
+      → (r′ : List A) × ((l ++ a ∷ []) ++ k ≡ b ∷ r′)
+  same-head [] a m k b r h = (k, (λ i. head-eq-of-cons-eq h i ∷ k))
+  same-head (c ∷ l) a m k b r h = ((l ++ a ∷ []) ++ k, (λ i. head-eq-of-cons-eq h i ∷ ((l ++ a ∷ []) ++ k)))
+
   -- Members when one element is put in.
   pub member-inserted : (l : List A) (e : A) (m : List A) {a : A} → Member a (l ++ m) → Member a (l ++ e ∷ m)
   member-inserted l e m h =

@@ -1,7 +1,7 @@
 -- What a step may pick is decided: the rule of release/acquire, stale values, and witnesses.
 use mathlib.Core.Path.{_≡_, refl, sym, ap, _∙_, subst}
 use mathlib.Core.Bool.{Bool, true, false, Bool-discrete}
-use mathlib.Core.List.{List, [], _∷_, _++_, List·Memᴰ as Member, cons≢nil}
+use mathlib.Core.List.{List, [], _∷_, _++_, List·Memᴰ as Member}
 use mathlib.Core.Option.{Option, none, some}
 use mathlib.Core.Logic.{_⊎_, inl, inr}
 use Prim.Native.Nat.{ℕ}
@@ -9,6 +9,7 @@ use native.Mathlib.Omega.{arith}
 use native.Mathlib.Decide.{ℕ-discrete}
 use Rattle.relations.specs.Closure.{Reaches}
 use Rattle.relations.proofs.Decide.{dec-map, dec-and, dec-not, dec-none, dec-some, SplitAt, dec-split, dec-implies}
+use Rattle.relations.proofs.Decide.{dec-empty}
 use Rattle.lists.proofs.Ends.{Snoc, empty-or-snoc, same-last, split-not-nil}
 use Rattle.program.specs.Program.{Program}
 use Rattle.program.specs.Thread.{Action, Kind, Read, Write, Update, kindOf, Effect, NextLine, ended, local, writing}
@@ -19,10 +20,6 @@ use Rattle.model.specs.Run.{State, threadOf, startsWithUpdate, Allowed}
 use Rattle.model.specs.Witness.{Witness}
 use Rattle.model.specs.Readable.{Readable}
 use Rattle.model.proofs.Decidable.{dec-happens-reaches, dec-sc-order}
-
-dec-empty : (l : List Id) → Dec (l ≡ [])
-dec-empty [] = yes refl
-dec-empty (a ∷ l) = no cons≢nil
 
 dec-unseen : (g : Graph) (es l : List Id) → Dec ((v : Id) → Member v l → Reaches (HappensBefore g) es v → ⊥)
 dec-unseen g es l = dec-none (dec-happens-reaches g es) l

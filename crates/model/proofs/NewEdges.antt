@@ -33,7 +33,7 @@ unwriting-reads reads x u w h = refl
 unwriting-reads (writes v) x u w h = absurd (let z : _≡_ {A = ℕ} 0 1 = cc in omega arith)
 unwriting-reads (updates v) x u w h = absurd (let z : _≡_ {A = ℕ} 0 1 = cc in omega arith)
 
--- The new event comes after the starting writes, the events of its thread,
+-- The new event comes after the starting writes and the events of its thread, and in thread order after nothing else;
 module _ {g : Graph} (d : Addition g) where
   next-there : length (eventsOf g (d .thread)) < length (eventsOf (grown d) (d .thread))
   next-there = omega (arith, one-event-more d)
@@ -46,7 +46,6 @@ module _ {g : Graph} (d : Addition g) where
       let r = place-of-own g (d .thread) m in
       subst⁻¹ (λ a. ThreadOrder (grown d) a (newId d)) (r .2) (within (r .1) next-there)
 
-  -- (and in thread order after nothing else)
   pub in-thread-before-new : {a b : Id} → ThreadOrder (grown d) a b → b ≡ newId d
       → ((x : ℕ) × (x < length (g .orders)) × (a ≡ start x)) ⊎ Member a (threadEvents g (d .thread))
   in-thread-before-new (starting {x = x} l h) q = inl (x, subst (λ n. x < n) (locations-stay d) l, refl)
@@ -55,7 +54,7 @@ module _ {g : Graph} (d : Addition g) where
       let q₂ : j ≡ length (eventsOf g (d .thread)) = cc in
       inr (subst⁻¹ (λ v. Member (event v i) (threadEvents g (d .thread))) q₁ (own-event g (d .thread) i (omega arith)))
 
-  -- the write that it picked,
+  -- after the write that it picked;
   pub picked-listed-first : writing (d .action) ≡ true → ModificationOrder (grown d) (d .picked) (newId d)
   picked-listed-first w =
       at (d .location)

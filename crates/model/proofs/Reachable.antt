@@ -12,6 +12,7 @@ use Rattle.relations.proofs.Precedes.{one-precedes}
 use mathlib.Core.Logic.{⊎-elim}
 use Rattle.program.specs.Program.{Program, Line}
 use Rattle.program.specs.Thread.{ThreadState, startThread, Action, Effect, NextLine, ended, access, doesAt, nextLine}
+use Rattle.program.specs.Thread.{local}
 use Rattle.model.specs.Graph.{Id, Graph, order, valueOf, nextId, eventOf, directlyAfter, extend}
 use Rattle.model.specs.Order.{at, modificationOrder, ScOrder}
 use Rattle.model.specs.Run.{State, startState, threadOf, Access, graphAfter, stateAfter, afterLocal, Rule}
@@ -39,6 +40,9 @@ has-thread p t q n = go (decLt t (length (p .threads)))
 
 pub access-not-ended : {l : NextLine} {x : ℕ} {f : ℕ → Option Effect} → l ≡ access x f → l ≡ ended → ⊥
 access-not-ended q r = let z : _≡_ {A = ℕ} 0 1 = cc in omega arith
+
+pub local-not-ended : {l : NextLine} {q : ThreadState} → l ≡ local q → l ≡ ended → ⊥
+local-not-ended q r = let z : _≡_ {A = ℕ} 0 1 = cc in omega arith
 
 pub access-has-thread : {p : Program} {s : State} {t : ℕ} → Access p s t → t < length (p .threads)
 access-has-thread {p} {s} {t} a = has-thread p t (threadOf s t) (access-not-ended (a .line))

@@ -1,6 +1,6 @@
 -- The event of an access has no way out: in happens-before always, in SC order where the picked write is the newest.
 use mathlib.Core.Path.{_≡_, refl, sym, ap, _∙_, subst, subst⁻¹}
-use mathlib.Core.List.{List, [], _∷_, _++_, List·Memᴰ as Member, List·Memᴰ·not-nil, List·Memᴰ·append-cases}
+use mathlib.Core.List.{[], _∷_, _++_, List·Memᴰ as Member, List·Memᴰ·not-nil}
 use mathlib.Core.Option.{some}
 use mathlib.Core.Logic.{_⊎_, inl, inr, ⊎-elim}
 use Prim.Native.Nat.{ℕ, _<_}
@@ -10,7 +10,7 @@ use lib.ListN.{length}
 use Rattle.relations.specs.Closure.{Precedes}
 use Rattle.relations.proofs.Sink.{Sink, closure-sink, sink-keeps-acyclic}
 use Rattle.lists.proofs.Ends.{length-of-snoc}
-use Rattle.relations.proofs.Precedes.{precedes-members, precedes-old-or-put-in, precedes-put-in}
+use Rattle.relations.proofs.Precedes.{precedes-members, precedes-put-in, precedes-in-front}
 use Rattle.model.specs.Graph.{Id, event, Event, Graph, eventsOf, order, eventAt, sourceOf, locationOf}
 use Rattle.model.specs.Order.{ThreadOrder, starting, within, ReadsFrom, ModificationOrder, at, FromRead}
 use Rattle.model.specs.Order.{HappensEdge, threadOrder, readsFrom, ScEdge, happensBefore, modificationOrder}
@@ -27,14 +27,6 @@ one-location f a x y m n =
     let v = f .listed-writes x a m in
     let w = f .listed-writes y a n in
     cc (v .there, v .to, w .there, w .to)
-
--- What stands before something stands in front of the last.
-in-front : (l : List Id) (c : Id) {a b : Id} → Precedes a b (l ++ c ∷ []) → Member a l
-in-front l c {a} h =
-    ⊎-elim
-    (λ p. ⊎-elim (λ m. m) (λ m. absurd (List·Memᴰ·not-nil m))
-    (List·Memᴰ·append-cases l (precedes-members (l ++ []) p .0)))
-    (⊎-elim (λ p. absurd (List·Memᴰ·not-nil (p .1))) (λ p. p .1)) (precedes-old-or-put-in l c [] h)
 
 module _ {g : Graph} (f : WellFormed g) (d : Addition g) where
   pub place-old-or-new : (u i : ℕ) → i < length (eventsOf (grown d) u)
@@ -96,7 +88,7 @@ module _ {g : Graph} (f : WellFormed g) (d : Addition g) where
     pub picked-is-last : (b : Id) (y : ℕ) → Precedes (d .picked) b (order g y) → ⊥
     picked-is-last b y h =
         let q = one-location f (d .picked) y (d .location) (precedes-members (order g y) h .0) (in-order d) in
-        let m = in-front (d .before) (d .picked)
+        let m = precedes-in-front (d .before) (d .picked)
         (subst (Precedes (d .picked) b) (picked-last d newest) (subst (λ z. Precedes (d .picked) b (order g z)) q h)) in
         f .no-repeats (d .location) (d .picked)
         (subst⁻¹ (Precedes (d .picked) (d .picked)) (picked-last d newest)

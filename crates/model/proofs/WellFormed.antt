@@ -1,8 +1,7 @@
 -- What holds of every graph that runs build, under either rule, and that each access keeps it.
 use mathlib.Core.Path.{_≡_, refl, sym, ap, _∙_, subst, subst⁻¹}
 use mathlib.Core.Bool.{true}
-use mathlib.Core.List.{List, [], _∷_, _++_, List·Memᴰ as Member, Memᴰ·append-left, Memᴰ·append-right}
-use mathlib.Core.List.{head-eq-of-cons-eq}
+use mathlib.Core.List.{List, _∷_, _++_, List·Memᴰ as Member, Memᴰ·append-left, Memᴰ·append-right}
 use mathlib.Core.Option.{Option, none, some}
 use mathlib.Core.Logic.{⊎-elim}
 use Prim.Native.Nat.{ℕ, _<_}
@@ -16,6 +15,7 @@ use Rattle.model.proofs.Lookup.{present-not-next}
 use Rattle.model.proofs.Growth.{Addition, in-order, newId, newEvent, grown, upToPicked, OrderAfter, unchanged}
 use Rattle.model.proofs.Growth.{putIn, order-after, member-stays, member-old-or-new, precedes-old-or-new}
 use Rattle.model.proofs.Growth.{event-stays, old-order, new-listed, new-there, there-old-or-new, locations-stay}
+use Rattle.lists.proofs.Ends.{same-head}
 
 -- The location that an event writes.
 unfoldable pub writesTo : Event → Option ℕ
@@ -79,12 +79,6 @@ unfolding sourceOf eventOf
 new-source reads x u w h = cc
 new-source (writes v) x u w h = absurd (let z : _≡_ {A = ℕ} 0 1 = cc in omega arith)
 new-source (updates v) x u w h = cc
-
--- A list and the same with another rest have the same head, where something stands before the rest.
-same-head : (l : List Id) (a : Id) (m k : List Id) (b : Id) (r : List Id) → (l ++ a ∷ []) ++ m ≡ b ∷ r
-    → (r′ : List Id) × ((l ++ a ∷ []) ++ k ≡ b ∷ r′)
-same-head [] a m k b r h = (k, (λ i. head-eq-of-cons-eq h i ∷ k))
-same-head (c ∷ l) a m k b r h = ((l ++ a ∷ []) ++ k, (λ i. head-eq-of-cons-eq h i ∷ ((l ++ a ∷ []) ++ k)))
 
 module _ {g : Graph} (f : WellFormed g) (d : Addition g) where
   listed-writes-kept : (x : ℕ) (a : Id) → Member a (order (grown d) x) → WriteTo (grown d) x a

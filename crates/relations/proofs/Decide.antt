@@ -2,7 +2,7 @@
 -- vertices that has every target of an edge: vertices are allowed between the ends one at a time.
 use mathlib.Core.Path.{_≡_, refl, sym, ap, subst, subst₂}
 use mathlib.Core.List.{List, [], _∷_, _++_, head-eq-of-cons-eq, tail-eq-of-cons-eq, List·Memᴰ as Member, List·Memᴰ·head}
-use mathlib.Core.List.{List·Memᴰ·tail, List·Memᴰ·cases-cons, List·Memᴰ·not-nil}
+use mathlib.Core.List.{List·Memᴰ·tail, List·Memᴰ·cases-cons, List·Memᴰ·not-nil, cons≢nil}
 use mathlib.Core.Logic.{_⊎_, inl, inr, ⊎-elim}
 use Rattle.relations.specs.Closure.{Relation, Closure, edge, further, IsOrBefore, Reaches, Precedes, here, later}
 use Rattle.lists.proofs.Ends.{split-not-nil}
@@ -30,6 +30,10 @@ dec-not (no n) = yes n
 pub dec-implies : {A B : Type 0} → Dec A → Dec B → Dec (A → B)
 dec-implies (yes a) d = dec-map (λ b x. b) (λ f. f a) d
 dec-implies (no n) d = yes (λ a. absurd (n a))
+
+pub dec-empty : {A : Type 0} (l : List A) → Dec (l ≡ [])
+dec-empty [] = yes refl
+dec-empty (a ∷ l) = no cons≢nil
 
 pub dec-member : {A : Type 0} → Discrete A → (a : A) (l : List A) → Dec (Member a l)
 dec-member d a [] = no List·Memᴰ·not-nil

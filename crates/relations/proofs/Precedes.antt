@@ -84,6 +84,12 @@ module _ {A : Type 0} where
           ⊎-elim (λ z. inl (later z)) (⊎-elim (λ z. inr (inl z)) (λ z. inr (inr (List·Memᴰ·tail (z .0), z .1))))
           (rest k)
 
+  -- What stands before something stands in front of the last.
+  pub precedes-in-front : (l : List A) (c : A) {a b : A} → Precedes a b (l ++ c ∷ []) → Member a l
+  precedes-in-front l c h =
+      ⊎-elim (λ p. precedes-members l p .0) (⊎-elim (λ p. absurd (precedes-not-single p)) (λ p. p .0))
+      (precedes-append-cases l (c ∷ []) h)
+
 module _ {A B : Type 0} (f : A → List B) where
   -- Two stand in the list of one element, or in the lists of two elements in their order.
   pub data FlatPrecedes (l : List A) (b c : B) : Type 0 where

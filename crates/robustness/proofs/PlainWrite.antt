@@ -8,7 +8,7 @@ use lib.Dec.{eqb}
 use lib.ListN.{getElem?}
 use Rattle.program.specs.Program.{Program, Line, linesOf, sum, equal, less, jump, write, read, fadd, cas, wait, bcas}
 use Rattle.program.specs.Thread.{ThreadState, reads, writes, updates, Effect, local, access, onward, load, operand}
-use Rattle.program.specs.Thread.{does, doesAt, nextLine}
+use Rattle.program.specs.Thread.{does, doesAt, nextLine, Action}
 
 same-effects : {x y : ℕ} {f g : ℕ → Option Effect} → access x f ≡ access y g → (u : ℕ) → f u ≡ g u
 same-effects {f = f} {g = g} q u = let h : f ≡ g = cc in λ i. h i u
@@ -16,19 +16,20 @@ same-effects {f = f} {g = g} q u = let h : f ≡ g = cc in λ i. h i u
 no-access : {q : ThreadState} {x : ℕ} {f : ℕ → Option Effect} → local q ≡ access x f → ⊥
 no-access h = let z : _≡_ {A = ℕ} 0 1 = cc in omega arith
 
+-- The action that an effect has.
+its-action : {a : Action} {q : ThreadState} {e : Effect} → some (record { action = a; after = q }) ≡ some e
+    → a ≡ e .action
+its-action {a} {q} {e} h =
+    ap (λ (c : Effect). c .action) (Option·some-injective (record { action = a; after = q }) e h)
+
 not-read : {q : ThreadState} {e : Effect} {v : ℕ} → some (record { action = reads; after = q }) ≡ some e
     → e .action ≡ writes v → ⊥
-not-read {q} {e} {v} h k =
-    let r : reads ≡ writes v = ap (λ (c : Effect). c .action)
-    (Option·some-injective (record { action = reads; after = q }) e h) ∙ k in
-    let z : _≡_ {A = ℕ} 0 1 = cc in omega arith
+not-read {v = v} h k = let r : reads ≡ writes v = its-action h ∙ k in let z : _≡_ {A = ℕ} 0 1 = cc in omega arith
 
 not-update : {q : ThreadState} {e : Effect} {v w : ℕ} → some (record { action = updates w; after = q }) ≡ some e
     → e .action ≡ writes v → ⊥
-not-update {q} {e} {v} {w} h k =
-    let r : updates w ≡ writes v = ap (λ (c : Effect). c .action)
-    (Option·some-injective (record { action = updates w; after = q }) e h) ∙ k in
-    let z : _≡_ {A = ℕ} 0 1 = cc in omega arith
+not-update {v = v} {w = w} h k =
+    let r : updates w ≡ writes v = its-action h ∙ k in let z : _≡_ {A = ℕ} 0 1 = cc in omega arith
 
 line-ignores : (K : ℕ) (l : Line) (s : ThreadState) {x : ℕ} (f : ℕ → Option Effect) (u u′ : ℕ) {e : Effect} {v : ℕ}
     → does K l s ≡ access x f → f u ≡ some e → e .action ≡ writes v → f u′ ≡ some e
@@ -56,8 +57,8 @@ line-ignores K (bcas x a b) s f u u′ {e} {v} q h k = absurd (go (eqb u (operan
     go true z = not-update z k
     go false z = let y : _≡_ {A = ℕ} 0 1 = cc in omega arith
 
-pub plain-write-ignores : (p : Program) (t : ℕ) (s : ThreadState) {x : ℕ} (f : ℕ
-    → Option Effect) (u u′ : ℕ) {e : Effect} {v : ℕ}
+pub plain-write-ignores : (p : Program) (t : ℕ) (s : ThreadState) {x : ℕ} (f : ℕ → Option Effect) (u u′ : ℕ)
+    {e : Effect} {v : ℕ}
     → nextLine p t s ≡ access x f → f u ≡ some e → e .action ≡ writes v → f u′ ≡ some e
 unfolding nextLine doesAt
 plain-write-ignores p t s {x} f u u′ {e} {v} = go (getElem? (linesOf p t) (s .line))

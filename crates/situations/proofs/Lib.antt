@@ -1,9 +1,9 @@
 pub mod Rows
 pub mod Decisions
 pub mod Newest
-pub mod Reached
 pub mod Bounds
 pub mod Bounded
+pub mod Reached
 pub mod Named
 pub mod StepLists
 pub mod StepGrowth
