@@ -1,6 +1,6 @@
 //! The command `second`: what document 01's printing program prints for the program bytes on standard input.
 
-use std::io::{self, Read};
+use std::io::{self, Read, Write};
 use std::process::ExitCode;
 
 use second::check;
@@ -8,20 +8,27 @@ use second::check;
 /// "with a table of 49,152 bytes and a trace of 4,096".
 const LENGTHS: [usize; 2] = [49_152, 4_096];
 
-const USAGE: &str = "usage: second [TABLE [TRACE]] < PROGRAM   (lengths in bytes, 49152 and 4096 if not given)";
+const USAGE: &str =
+    "usage: second [TABLE [TRACE]] < PROGRAM   (lengths in bytes, 49152 and 4096 if not given)";
 
 fn main() -> ExitCode {
     let Some([table, trace]) = lengths() else {
         eprintln!("{USAGE}");
         return ExitCode::from(2);
     };
-    let mut bytes = Vec::new();
-    if let Err(error) = io::stdin().read_to_end(&mut bytes) {
-        eprintln!("second: standard input: {error}");
-        return ExitCode::FAILURE;
+    match run(table, trace) {
+        Ok(()) => ExitCode::SUCCESS,
+        Err(error) => {
+            eprintln!("second: {error}");
+            ExitCode::FAILURE
+        }
     }
-    print!("{}", check(&bytes, table, trace));
-    ExitCode::SUCCESS
+}
+
+fn run(table: usize, trace: usize) -> io::Result<()> {
+    let mut bytes = Vec::new();
+    io::stdin().read_to_end(&mut bytes)?;
+    io::stdout().write_all(check(&bytes, table, trace).to_string().as_bytes())
 }
 
 /// The lengths that the command line gives, in place of those of document 01.
