@@ -24,6 +24,9 @@ pub struct Shape {
 /// Each op as often as any other.
 const ALL: &[u8] = &[1, 2, 3, 4, 5, 6, 7, 8, 9, 10];
 
+/// Plain reads and writes more often than the rest.
+const RACES: &[u8] = &[1, 2, 3, 4, 5, 5, 5, 5, 6, 6, 6, 6, 7, 7, 8, 8, 9, 10];
+
 impl Shape {
     /// Up to the limits: every accepted program can come out.
     pub fn any() -> Shape {
@@ -33,6 +36,26 @@ impl Shape {
     /// A few short threads, as a litmus program has them, so that a search of the program ends soon.
     pub fn small() -> Shape {
         Shape { threads: 1..=3, locations: 1..=3, values: 2..=3, lines: 0..=4, ops: ALL }
+    }
+
+    /// Threads that race: mostly reads and writes of few values, of which many are equal.
+    pub fn racing() -> Shape {
+        Shape { threads: 2..=4, locations: 1..=3, values: 2..=4, lines: 2..=5, ops: RACES }
+    }
+
+    /// Longer threads, of which many loop.
+    pub fn looping() -> Shape {
+        Shape { threads: 2..=3, locations: 1..=3, values: 2..=4, lines: 3..=9, ops: ALL }
+    }
+
+    /// Locations and values up to the limits, in few lines.
+    pub fn wide() -> Shape {
+        Shape { threads: 2..=3, locations: LOCATIONS, values: VALUES, lines: 2..=6, ops: RACES }
+    }
+
+    /// Threads up to the limit, of very few lines.
+    pub fn crowded() -> Shape {
+        Shape { threads: 4..=*THREADS.end(), locations: 2..=2, values: 2..=3, lines: 1..=2, ops: RACES }
     }
 }
 
