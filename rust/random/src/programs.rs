@@ -17,17 +17,45 @@ pub struct Shape {
     pub values: RangeInclusive<u8>,
     /// The number of lines of each thread.
     pub lines: RangeInclusive<u8>,
+    /// The ops of the lines, each as often as it stands here.
+    pub ops: &'static [u8],
 }
+
+/// Each op as often as any other.
+const ALL: &[u8] = &[1, 2, 3, 4, 5, 6, 7, 8, 9, 10];
+
+/// Plain reads and writes more often than the rest.
+const RACES: &[u8] = &[1, 2, 3, 4, 5, 5, 5, 5, 6, 6, 6, 6, 7, 7, 8, 8, 9, 10];
 
 impl Shape {
     /// Up to the limits: every accepted program can come out.
     pub fn any() -> Shape {
-        Shape { threads: THREADS, locations: LOCATIONS, values: VALUES, lines: LINES }
+        Shape { threads: THREADS, locations: LOCATIONS, values: VALUES, lines: LINES, ops: ALL }
     }
 
     /// A few short threads, as a litmus program has them, so that a search of the program ends soon.
     pub fn small() -> Shape {
-        Shape { threads: 1..=3, locations: 1..=3, values: 2..=3, lines: 0..=4 }
+        Shape { threads: 1..=3, locations: 1..=3, values: 2..=3, lines: 0..=4, ops: ALL }
+    }
+
+    /// Threads that race: mostly reads and writes of few values, of which many are equal.
+    pub fn racing() -> Shape {
+        Shape { threads: 2..=4, locations: 1..=3, values: 2..=4, lines: 2..=5, ops: RACES }
+    }
+
+    /// Longer threads, of which many loop.
+    pub fn looping() -> Shape {
+        Shape { threads: 2..=3, locations: 1..=3, values: 2..=4, lines: 3..=9, ops: ALL }
+    }
+
+    /// Locations and values up to the limits, in few lines.
+    pub fn wide() -> Shape {
+        Shape { threads: 2..=3, locations: LOCATIONS, values: VALUES, lines: 2..=6, ops: RACES }
+    }
+
+    /// Threads up to the limit, of very few lines.
+    pub fn crowded() -> Shape {
+        Shape { threads: 4..=*THREADS.end(), locations: 2..=2, values: 2..=3, lines: 1..=2, ops: RACES }
     }
 }
 
@@ -38,30 +66,31 @@ pub fn program(numbers: &mut Numbers, shape: &Shape) -> Program {
     let threads = (0..numbers.within(&shape.threads))
         .map(|_| {
             let n = numbers.within(&shape.lines);
-            (0..n).map(|_| line(numbers, n, locations, values)).collect()
+            (0..n).map(|_| line(numbers, shape.ops, n, locations, values)).collect()
         })
         .collect();
     Program { threads, locations, values }
 }
 
-/// A line of a thread of n lines, each op as often as any other.
-fn line(numbers: &mut Numbers, n: u8, locations: u8, values: u8) -> Line {
+/// A line of a thread of n lines.
+fn line(numbers: &mut Numbers, ops: &[u8], n: u8, locations: u8, values: u8) -> Line {
     let reg = numbers.within(&(0..=REGISTERS - 1));
     let location = numbers.within(&(0..=locations - 1));
     let target = numbers.within(&(0..=n));
     let a = operand(numbers, values);
     let b = operand(numbers, values);
-    match numbers.below(10) {
-        0 => Line::Sum { reg, a, b },
-        1 => Line::Equal { reg, a, b },
-        2 => Line::Less { reg, a, b },
-        3 => Line::Jump { target, a },
-        4 => Line::Write { location, a },
-        5 => Line::Read { reg, location },
-        6 => Line::Fadd { reg, location, a },
-        7 => Line::Cas { reg, location, a, b },
-        8 => Line::Wait { location, a },
-        _ => Line::Bcas { location, a, b },
+    match numbers.pick(ops) {
+        1 => Line::Sum { reg, a, b },
+        2 => Line::Equal { reg, a, b },
+        3 => Line::Less { reg, a, b },
+        4 => Line::Jump { target, a },
+        5 => Line::Write { location, a },
+        6 => Line::Read { reg, location },
+        7 => Line::Fadd { reg, location, a },
+        8 => Line::Cas { reg, location, a, b },
+        9 => Line::Wait { location, a },
+        10 => Line::Bcas { location, a, b },
+        op => panic!("{op} is no op"),
     }
 }
 

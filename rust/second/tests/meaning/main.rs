@@ -1,0 +1,142 @@
+//! The second checker against the meaning itself: robustness by all release/acquire runs, and the numbering of
+//! situations by all schedules, on programs small enough for that.
+
+mod runs;
+
+use models::collection::{self, Verdict};
+use random::{program, Numbers, Shape};
+use second::{read, Ending, Line, Program, Search, Situation, State};
+
+/// More than any program here needs.
+const PLACES: usize = 100_000;
+
+/// Every op, reads and writes more often than the others.
+const MIXED: &[u8] = &[1, 2, 3, 4, 5, 5, 5, 5, 6, 6, 6, 6, 7, 7, 8, 8, 9, 10];
+
+/// Accesses only, none of which blocks: these are the least robust.
+const RACES: Shape =
+    Shape { threads: 2..=2, locations: 2..=2, values: 2..=3, lines: 3..=5, ops: &[5, 5, 5, 6, 6, 6, 7, 8] };
+
+const THREES: Shape = Shape { threads: 3..=3, locations: 2..=2, values: 2..=3, lines: 2..=3, ops: MIXED };
+
+const TWOS: Shape = Shape { threads: 2..=2, locations: 2..=3, values: 2..=3, lines: 3..=5, ops: MIXED };
+
+/// Tiny programs without loops: every jump goes down.
+fn tiny(seed: u64, count: usize, shape: Shape) -> impl Iterator<Item = Program> {
+    let mut numbers = Numbers::new(seed);
+    (0..count).map(move |_| {
+        let mut program = program(&mut numbers, &shape);
+        for lines in &mut program.threads {
+            for (place, line) in lines.iter_mut().enumerate() {
+                if let Line::Jump { target, .. } = line {
+                    *target = (*target).max(place as u8 + 1);
+                }
+            }
+        }
+        program
+    })
+}
+
+/// Whether the second checker finds the program robust.
+fn found_robust(program: &Program) -> bool {
+    match Search::new(program, PLACES).ending {
+        Ending::Whole => true,
+        Ending::Witness(_) => false,
+        Ending::Full => panic!("more than {PLACES} situations"),
+    }
+}
+
+#[test]
+fn robust_is_what_release_acquire_runs_say_without_loops() {
+    let (mut robust, mut other) = (0, 0);
+    for program in tiny(1, 400, RACES).chain(tiny(2, 300, THREES)).chain(tiny(3, 300, TWOS)) {
+        let expected = runs::is_robust(&program, usize::MAX);
+        assert_eq!(found_robust(&program), expected, "{program:?}");
+        *(if expected { &mut robust } else { &mut other }) += 1;
+    }
+    assert!(robust >= 400 && other >= 100, "{robust} robust, {other} not");
+}
+
+#[test]
+fn the_models_get_their_verdicts_from_all_runs() {
+    // With at most so many accesses, which is all of them where a model has no loop.
+    const EVENTS: usize = 8;
+    let mut asked = 0;
+    for model in collection::load(&collection::directory()).unwrap() {
+        let program = read(&model.bytes).unwrap();
+        if program.threads.iter().map(Vec::len).sum::<usize>() <= 10 {
+            let robust = runs::is_robust(&program, EVENTS);
+            assert_eq!(robust, model.expected == Verdict::Robust, "{}", model.name);
+            assert_eq!(robust, found_robust(&program), "{}", model.name);
+            asked += 1;
+        }
+    }
+    assert!(asked >= 20, "only {asked} models are that small");
+}
+
+/// Each situation with the first schedule that reaches it, found by going through all schedules of at most `length`
+/// steps in their order.
+fn numbered(program: &Program, length: usize) -> Vec<(Vec<u8>, Situation)> {
+    let mut found: Vec<(Vec<u8>, Situation)> = Vec::new();
+    let mut runs = vec![(Vec::new(), State::start(program))];
+    for _ in 0..=length {
+        for (schedule, state) in &runs {
+            let situation = Situation::of(state);
+            if found.iter().all(|(_, known)| *known != situation) {
+                found.push((schedule.clone(), situation));
+            }
+        }
+        let longer = |(schedule, state): &(Vec<u8>, State)| {
+            let step = |thread: usize| {
+                let after = state.sc_step(program, thread)?;
+                Some(([schedule.as_slice(), &[thread as u8 + 1]].concat(), after))
+            };
+            (0..program.threads.len()).filter_map(step).collect::<Vec<_>>()
+        };
+        runs = runs.iter().flat_map(longer).collect();
+    }
+    found
+}
+
+#[test]
+fn situations_are_numbered_by_their_first_schedules() {
+    let mut compared = 0;
+    for program in tiny(4, 100, RACES).chain(tiny(5, 100, THREES)).chain(tiny(6, 100, TWOS)) {
+        let lines: usize = program.threads.iter().map(Vec::len).sum();
+        if lines > 8 {
+            continue;
+        }
+        // Without loops no run is longer than the lines are many.
+        let expected = numbered(&program, lines);
+        let search = Search::new(&program, PLACES);
+        assert!(search.places.len() <= expected.len());
+        if search.ending == Ending::Whole {
+            assert_eq!(search.places.len(), expected.len(), "{program:?}");
+        }
+        for (place, (schedule, situation)) in search.places.iter().zip(&expected) {
+            assert_eq!(*place.situation, *situation, "{program:?}");
+            assert_eq!(place.by, usize::from(schedule.last().copied().unwrap_or(0)));
+        }
+        let last = search.places.len();
+        assert_eq!(search.schedule(last), expected[last - 1].0);
+        compared += 1;
+    }
+    assert!(compared >= 80, "only {compared} programs are that small");
+}
+
+#[test]
+fn situations_of_loops_are_numbered_by_their_first_schedules() {
+    for name in ["sb-forever", "barrier-loop", "barrier-cas-loop", "counting-loop"] {
+        let models = collection::load(&collection::directory()).unwrap();
+        let bytes = models.into_iter().find(|model| model.name == name).unwrap().bytes;
+        let program = read(&bytes).unwrap();
+        let search = Search::new(&program, PLACES);
+        let last = search.places.len();
+        let expected = numbered(&program, search.schedule(last).len());
+        for (number, (schedule, situation)) in expected.iter().take(last).enumerate() {
+            assert_eq!(*search.places[number].situation, *situation, "{name}");
+            assert_eq!(search.schedule(number + 1), *schedule, "{name}");
+        }
+        assert!(expected.len() >= last, "{name}");
+    }
+}

@@ -1,0 +1,82 @@
+//! The command `second`, run as a user runs it.
+
+use std::io::Write;
+use std::process::{Command, Output, Stdio};
+
+use models::collection;
+
+const SB: &[u8] = b"PR\x02\x02\x02TH\x02IN\x05\x00\x00\x01\x00IN\x06\x00\x01\x00\x00\
+      TH\x02IN\x05\x00\x01\x01\x00IN\x06\x00\x00\x00\x00";
+
+fn run(arguments: &[&str], input: &[u8]) -> Output {
+    let mut child = Command::new(env!("CARGO_BIN_EXE_second"))
+        .args(arguments)
+        .stdin(Stdio::piped())
+        .stdout(Stdio::piped())
+        .stderr(Stdio::piped())
+        .spawn()
+        .unwrap();
+    // A command that does not read its input may be gone before it is written.
+    let _ = child.stdin.take().unwrap().write_all(input);
+    child.wait_with_output().unwrap()
+}
+
+/// It ends well and prints this, and nothing else.
+#[track_caller]
+fn prints(arguments: &[&str], input: &[u8], expected: &str) {
+    let output = run(arguments, input);
+    assert_eq!(String::from_utf8_lossy(&output.stderr), "");
+    assert_eq!(String::from_utf8_lossy(&output.stdout), expected);
+    assert_eq!(output.status.code(), Some(0));
+}
+
+fn model(name: &str) -> Vec<u8> {
+    let models = collection::load(&collection::directory()).unwrap();
+    models.into_iter().find(|model| model.name == name).unwrap_or_else(|| panic!("no model {name}")).bytes
+}
+
+#[test]
+fn sb_has_the_output_of_document_01() {
+    prints(&[], SB, "NR 7 3 2 R 0 0\nST 1\nST 1\nST 2\n");
+}
+
+#[test]
+fn the_other_cases_have_theirs() {
+    prints(&[], &model("2+2w"), "NR 8 3 2 W 0 0\nST 1\nST 1\nST 2\n");
+    prints(&[], &model("mp"), "RB 13\n");
+    prints(&[], &model("barrier"), "RB 7\n");
+    prints(&[], b"PR\x01\x01\x02TH\x00", "RB 1\n");
+    prints(&[], b"", "NO 1\n");
+    prints(&[], b"PR\x01\x01\x01TH\x00", "NO 2\n");
+    prints(&[], &[SB, b"\x00"].concat(), "NO 9\n");
+}
+
+#[test]
+fn a_read_modify_write_prints_as_m() {
+    // x := 1; FADD(y, 0) ‖ y := 1; FADD(x, 0)
+    let program = b"PR\x02\x02\x02TH\x02IN\x05\x00\x00\x01\x00IN\x07\x00\x01\x00\x00\
+        TH\x02IN\x05\x00\x01\x01\x00IN\x07\x00\x00\x00\x00";
+    let printed = String::from_utf8(run(&[], program).stdout).unwrap();
+    assert!(printed.starts_with("NR 7 3 2 M 0 0\nST 1\n"), "{printed}");
+}
+
+#[test]
+fn the_table_of_49152_bytes_can_be_full() {
+    // Eight threads of three local lines have 4^8 situations, and T = 8, L = 1 gives 49,152 / 96 places.
+    let thread = [b"TH\x03".as_slice(), &b"IN\x01\x00\x00\x00\x00".repeat(3)].concat();
+    prints(&[], &[b"PR\x08\x01\x02".as_slice(), &thread.repeat(8)].concat(), "FU 512\n");
+}
+
+#[test]
+fn other_lengths_are_arguments() {
+    prints(&["413"], SB, "NR 7 3 2 R 0 0\nST 1\nST 1\nST 2\n");
+    prints(&["412"], SB, "FU 6\n");
+    prints(&["413", "3"], SB, "NR 7 3 2 R 0 0\nST 1\nST 1\nST 2\n");
+    prints(&["413", "2"], SB, "NO 10\n");
+    for arguments in [&["413", "3", "1"][..], &["many"], &["-1"]] {
+        let output = run(arguments, SB);
+        assert_eq!(output.status.code(), Some(2));
+        assert_eq!(output.stdout, b"");
+        assert!(String::from_utf8_lossy(&output.stderr).starts_with("usage: second"));
+    }
+}

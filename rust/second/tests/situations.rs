@@ -1,0 +1,118 @@
+//! Situations worked out by hand from the graphs of short runs.
+
+use second::{read, LocationPart, Program, Situation, State, ThreadPart};
+
+const X: u16 = 0b01;
+const Y: u16 = 0b10;
+const ZERO: u16 = 0b01;
+
+/// The situation after the schedule, with threads counted from 1.
+fn after(program: &Program, schedule: &[usize]) -> Situation {
+    let step = |state: State, thread: &usize| state.sc_step(program, thread - 1).expect("a run");
+    Situation::of(&schedule.iter().fold(State::start(program), step))
+}
+
+/// A row of sets for x and y, the same with and without writes that a read-modify-write follows.
+fn thread(line: u8, seen: u16, readable: [u16; 2], writable: [u16; 2]) -> ThreadPart {
+    let [readable, writable] = [readable, writable].map(|[x, y]| [x, y, 0, 0, 0, 0, 0, 0]);
+    ThreadPart { line, registers: [0; 4], seen, readable, writable }
+}
+
+fn location(value: u8, seen: [u16; 2], readable: [u16; 2], writable: [u16; 2]) -> LocationPart {
+    let [readable, writable] = [readable, writable].map(|[x, y]| [x, y, 0, 0, 0, 0, 0, 0]);
+    LocationPart { value, seen_by_newest: seen[0], seen_by_any: seen[1], readable, writable }
+}
+
+/// x := 1; read y ‖ y := 1; read x.
+const SB: &[u8] = b"PR\x02\x02\x02TH\x02IN\x05\x00\x00\x01\x00IN\x06\x00\x01\x00\x00\
+      TH\x02IN\x05\x00\x01\x01\x00IN\x06\x00\x00\x00\x00";
+
+#[test]
+fn the_start_has_seen_everything() {
+    let none = [0, 0];
+    let expected = Situation {
+        threads: vec![thread(0, X | Y, none, none); 2],
+        locations: vec![location(0, [X, X], none, none), location(0, [Y, Y], none, none)],
+    };
+    assert_eq!(after(&read(SB).unwrap(), &[]), expected);
+}
+
+#[test]
+fn a_write_is_seen_by_its_thread_alone() {
+    let expected = Situation {
+        threads: vec![thread(1, X | Y, [0, 0], [0, 0]), thread(0, Y, [ZERO, 0], [ZERO, 0])],
+        // The starting write of y comes before the new write of x.
+        locations: vec![
+            location(1, [X | Y, X | Y], [0, 0], [0, 0]),
+            location(0, [Y, Y], [ZERO, 0], [ZERO, 0]),
+        ],
+    };
+    assert_eq!(after(&read(SB).unwrap(), &[1]), expected);
+}
+
+#[test]
+fn sb_before_its_witness() {
+    // x := 1 comes before the read of y, and that, by from-read, before y := 1.
+    let expected = Situation {
+        threads: vec![
+            thread(2, X, [0, ZERO], [0, ZERO]),
+            // SC order hides nothing: thread 2 may still read the first 0 of x.
+            thread(1, X | Y, [ZERO, 0], [ZERO, 0]),
+        ],
+        locations: vec![
+            location(1, [X, X], [0, ZERO], [0, ZERO]),
+            location(1, [X | Y, X | Y], [ZERO, 0], [ZERO, 0]),
+        ],
+    };
+    assert_eq!(after(&read(SB).unwrap(), &[1, 1, 2]), expected);
+}
+
+#[test]
+fn a_read_hides_what_its_source_has_seen() {
+    // MP after x := 1; y := 1 ‖ read y: the thread has read 1 into register 0, and x := 1 happens before that.
+    let mp = b"PR\x02\x02\x02TH\x02IN\x05\x00\x00\x01\x00IN\x05\x00\x01\x01\x00\
+        TH\x02IN\x06\x00\x01\x00\x00IN\x06\x01\x00\x00\x00";
+    let mut reader = thread(1, X | Y, [0, 0], [0, 0]);
+    reader.registers[0] = 1;
+    let expected = Situation {
+        threads: vec![thread(2, X | Y, [0, 0], [0, 0]), reader],
+        locations: vec![
+            location(1, [X, X], [0, ZERO], [0, ZERO]),
+            location(1, [X | Y, X | Y], [0, 0], [0, 0]),
+        ],
+    };
+    assert_eq!(after(&read(mp).unwrap(), &[1, 1, 2]), expected);
+}
+
+#[test]
+fn before_a_read_modify_write_nothing_can_be_placed() {
+    // FADD(x, 1) ‖ CAS(x, 0 -> 0) with the register kept 0: the second finds 1, so it is a plain read.
+    let program = read(
+        b"PR\x02\x02\x02TH\x01IN\x07\x00\x00\x01\x00\
+        TH\x01IN\x08\x00\x00\x00\x00",
+    )
+    .unwrap();
+    let first = Situation {
+        threads: vec![thread(1, X | Y, [0, 0], [0, 0]), thread(0, Y, [ZERO, 0], [0, 0])],
+        locations: vec![location(1, [X | Y, X | Y], [0, 0], [0, 0]), location(0, [Y, Y], [ZERO, 0], [0, 0])],
+    };
+    assert_eq!(after(&program, &[1]), first);
+    let mut reader = thread(1, X | Y, [0, 0], [0, 0]);
+    reader.registers[0] = 1;
+    let second = Situation { threads: vec![first.threads[0], reader], ..first };
+    assert_eq!(after(&program, &[1, 2]), second);
+}
+
+#[test]
+fn a_read_is_an_access_and_no_write() {
+    // y := 1; read x ‖ nothing: the read of x comes after y := 1, and x has no new write.
+    let program = read(b"PR\x01\x02\x02TH\x02IN\x05\x00\x01\x01\x00IN\x06\x00\x00\x00\x00").unwrap();
+    let expected = Situation {
+        threads: vec![thread(2, X | Y, [0, 0], [0, 0])],
+        locations: vec![
+            location(0, [X, X | Y], [0, ZERO], [0, ZERO]),
+            location(1, [X | Y, X | Y], [0, 0], [0, 0]),
+        ],
+    };
+    assert_eq!(after(&program, &[1, 1]), expected);
+}

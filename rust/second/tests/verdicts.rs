@@ -1,0 +1,102 @@
+//! The cases of document 01, each with its lent lengths.
+
+use models::collection;
+use second::{check, place_size, places_available, Answer, Kind, Report, Witness};
+
+const TRACE: usize = 4_096;
+
+/// The bytes of a model. That they are those of document 01 is tested where the models are.
+fn model(name: &str) -> Vec<u8> {
+    let models = collection::load(&collection::directory()).unwrap();
+    models.into_iter().find(|model| model.name == name).unwrap_or_else(|| panic!("no model {name}")).bytes
+}
+
+/// The answer is this one, so many places are written, and the trace gets these bytes.
+#[track_caller]
+fn is(report: &Report, answer: Answer, places: usize, trace: &[u8]) {
+    assert_eq!(report.answer, answer);
+    assert_eq!(report.places.len(), places);
+    assert_eq!(report.trace, trace);
+}
+
+/// What is named for SB.
+fn of_sb() -> Answer {
+    let witness = Witness { thread: 2, kind: Kind::Read, location: 0, value: 0 };
+    Answer::NotRobust { count: 7, steps: 3, witness }
+}
+
+#[test]
+fn sb_has_its_witness_in_situation_7() {
+    let sb = model("sb");
+    is(&check(&sb, 413, TRACE), of_sb(), 7, &[1, 1, 2]);
+    is(&check(&sb, 412, TRACE), Answer::Full { count: 6 }, 6, &[]);
+}
+
+#[test]
+fn sb_needs_a_trace_of_3() {
+    let sb = model("sb");
+    is(&check(&sb, 413, 2), Answer::ShortTrace { wanted: 3..=7 }, 7, &[]);
+    assert_eq!(check(&sb, 413, 2).places, check(&sb, 413, TRACE).places);
+    is(&check(&sb, 413, 3), of_sb(), 7, &[1, 1, 2]);
+    // Check 10 is asked only if the witness is among the first N.
+    is(&check(&sb, 412, 2), Answer::Full { count: 6 }, 6, &[]);
+}
+
+#[test]
+fn mp_has_13_situations() {
+    let mp = model("mp");
+    is(&check(&mp, 767, TRACE), Answer::Robust { count: 13 }, 13, &[]);
+    is(&check(&mp, 766, TRACE), Answer::Full { count: 12 }, 12, &[]);
+    is(&check(&mp, 767, 0), Answer::Robust { count: 13 }, 13, &[]);
+}
+
+#[test]
+fn in_2_2w_a_write_is_the_witness() {
+    let witness = Witness { thread: 2, kind: Kind::Write, location: 0, value: 0 };
+    let answer = Answer::NotRobust { count: 8, steps: 3, witness };
+    is(&check(&model("2+2w"), 8 * 59, TRACE), answer, 8, &[1, 1, 2]);
+}
+
+#[test]
+fn the_barrier_has_7_situations() {
+    is(&check(&model("barrier"), 7 * 59, TRACE), Answer::Robust { count: 7 }, 7, &[]);
+}
+
+#[test]
+fn an_empty_thread_has_one_situation() {
+    let empty = b"PR\x01\x01\x02TH\x00";
+    is(&check(empty, 26, TRACE), Answer::Robust { count: 1 }, 1, &[]);
+    is(&check(empty, 25, TRACE), Answer::Full { count: 0 }, 0, &[]);
+    is(&check(empty, 0, 0), Answer::Full { count: 0 }, 0, &[]);
+}
+
+#[test]
+fn refused_programs_write_nothing() {
+    let jump = |target| [b"PR\x01\x01\x02TH\x01IN\x04\x00".as_slice(), &[target], b"\x01\x00"].concat();
+    let more = [model("sb").as_slice(), b"\x00"].concat();
+    let k_is_1 = b"PR\x01\x01\x01TH\x00".to_vec();
+    for (bytes, number) in [(vec![], 1), (k_is_1, 2), (more, 9), (jump(2), 7)] {
+        is(&check(&bytes, 49_152, TRACE), Answer::Refused { number }, 0, &[]);
+    }
+    is(&check(&jump(1), 49_152, TRACE), Answer::Robust { count: 2 }, 2, &[]);
+}
+
+#[test]
+fn places_say_where_they_were_reached_from() {
+    let found = |name| {
+        let places = check(&model(name), 49_152, TRACE).places;
+        places.iter().map(|place| (place.from, place.by)).collect::<Vec<_>>()
+    };
+    assert_eq!(found("sb"), [(0, 0), (1, 1), (1, 2), (2, 1), (2, 2), (3, 2), (4, 2)]);
+    assert_eq!(found("barrier"), [(0, 0), (1, 1), (1, 2), (2, 2), (4, 1), (4, 2), (5, 2)]);
+}
+
+#[test]
+fn a_place_has_the_size_of_document_01() {
+    assert_eq!(place_size(2, 2), 59);
+    assert_eq!(place_size(1, 1), 26);
+    assert_eq!(place_size(8, 8), 593);
+    assert_eq!(places_available(59 * 7 - 1, 2, 2), 6);
+    assert_eq!(places_available(59 * 7, 2, 2), 7);
+    assert_eq!(places_available(usize::MAX, 1, 1), 1_000_000_000);
+}
