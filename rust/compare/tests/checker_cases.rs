@@ -5,8 +5,7 @@ use models::collection;
 
 /// The bytes of a model.
 fn model(name: &str) -> Vec<u8> {
-    let models = collection::load(&collection::directory()).unwrap();
-    models.into_iter().find(|model| model.name == name).unwrap_or_else(|| panic!("no model {name}")).bytes
+    collection::named(name).unwrap().bytes
 }
 
 /// The answer with so much lent, as eight numbers, and the trace after it, which was lent with 9s.

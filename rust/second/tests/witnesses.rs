@@ -30,8 +30,8 @@ fn at_x(thread: usize, kind: Kind, value: u8) -> Option<Witness> {
     Some(Witness { thread, kind, location: X.into(), value })
 }
 
-/// x := 3; x := 2; x := 1; read y ‖ read x; y := 1; and a last line. The read of x stands after x := 3, so of the stale
-/// values 3 and 2 are left, the smaller one later in the modification order.
+/// x := 3; x := 2; x := 1; read y ‖ read x; y := 1; and a last line. The read of x stands after x := 3, so of the
+/// stale values 3 and 2 are left, the smaller one later in the modification order.
 fn after_a_glance(last: Line) -> Option<Witness> {
     let writer = vec![write(X, 3), write(X, 2), write(X, 1), read(Y)];
     named(vec![writer, vec![read(X), write(Y, 1), last]], &[1, 2, 1, 1, 1, 2])

@@ -36,7 +36,7 @@ impl Expected {
         self.program.as_ref().ok().map(|(_, search)| search)
     }
 
-    /// The size of a place; 1 if the program is refused.
+    /// The size of a place, of no thread and no location if the program is refused.
     pub fn place_size(&self) -> usize {
         let (threads, locations) = self.sizes();
         place_size(threads, locations)
@@ -62,8 +62,8 @@ impl Expected {
     }
 }
 
-/// Where the library differs with these lengths, if it does: in its answer, in a byte of table or trace, in a byte beside
-/// them, or between two fillings of what was lent.
+/// Where the library differs with these lengths, if it does: in its answer, in a byte of table or trace, in a byte
+/// beside them, or between two fillings of what was lent.
 pub fn difference(bytes: &[u8], expected: &Expected, lengths: Lengths) -> Option<String> {
     let report = expected.report(lengths);
     let run = |invert| Run::new(bytes, lengths, invert);

@@ -20,8 +20,8 @@ pub fn random_program(numbers: &mut Numbers) -> Program {
     program(numbers, &shape)
 }
 
-/// Several lengths at which something changes for a program: places that just suffice or just don't, none, some, and more
-/// than enough; a trace that is just long enough or just too short.
+/// Several lengths at which something changes for a program: places that just suffice or just don't, none, some, and
+/// more than enough; a trace that is just long enough or just too short.
 pub fn lengths(numbers: &mut Numbers, expected: &Expected) -> Vec<Lengths> {
     let size = expected.place_size();
     let Some(search) = expected.search() else {

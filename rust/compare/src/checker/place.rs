@@ -15,12 +15,12 @@ pub struct Written {
     pub situation: Situation,
 }
 
-/// The length of what stands before the situation: "the place it was reached from (4 bytes [..]), the thread (1 [..]), a
-/// fingerprint (4)".
+/// The length of what stands before the situation: "the place it was reached from (4 bytes [..]), the thread (1 [..]),
+/// a fingerprint (4)".
 const HEAD: usize = 9;
 
-/// Takes a place apart: the order of its bytes, as docs/LAYOUT.md has it, is in this function alone. Nothing where bytes
-/// are missing or left over.
+/// Takes a place apart: the order of its bytes, as docs/LAYOUT.md has it, is in this function alone. Nothing where
+/// bytes are missing or left over.
 pub fn decode(place: &[u8], threads: usize, locations: usize) -> Option<Written> {
     let mut bytes = Bytes(place);
     let from = u32::from_le_bytes(bytes.take()?) as usize;
