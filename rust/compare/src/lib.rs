@@ -1,5 +1,8 @@
-//! Compares the static library of the Rattle reader with the second program.
+//! Compares the static libraries of the Rattle side with the second program: the reader, and with the feature
+//! `checker` the whole checker.
 
+#[cfg(feature = "checker")]
+pub mod checker;
 mod expected;
 mod library;
 

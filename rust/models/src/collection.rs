@@ -44,6 +44,12 @@ pub fn load(directory: &Path) -> Result<Vec<Model>, String> {
     Ok(models)
 }
 
+/// The model of this repository that has the name, or what is wrong.
+pub fn named(name: &str) -> Result<Model, String> {
+    let models = load(&directory())?;
+    models.into_iter().find(|model| model.name == name).ok_or_else(|| format!("no model {name}"))
+}
+
 fn load_one(path: &Path) -> Result<Model, String> {
     let text = fs::read_to_string(path).map_err(|error| format!(" {error}"))?;
     Ok(Model {

@@ -10,8 +10,7 @@ fn all() -> Vec<Model> {
 }
 
 fn bytes_of(name: &str) -> Vec<u8> {
-    let model = all().into_iter().find(|model| model.name == name);
-    model.unwrap_or_else(|| panic!("no model {name}")).bytes
+    collection::named(name).unwrap().bytes
 }
 
 #[test]
@@ -45,8 +44,7 @@ fn the_litmus_programs_of_the_source_expect_what_it_says() {
         ("sb-zeros", Verdict::NotRobust),
         ("2+2w-no-reads", Verdict::NotRobust),
     ] {
-        let model = all().into_iter().find(|model| model.name == name);
-        assert_eq!(model.map(|model| model.expected), Some(expected), "{name}");
+        assert_eq!(collection::named(name).map(|model| model.expected), Ok(expected), "{name}");
     }
 }
 
@@ -88,6 +86,14 @@ fn the_models_use_every_op_and_registers_as_operands() {
     let ops: std::collections::BTreeSet<u8> = lines.iter().map(|line| models::fields(line)[0]).collect();
     assert_eq!(ops, (1..=10).collect());
     assert!(lines.iter().any(|line| matches!(line, Line::Write { a: Operand::Register(_), .. })));
+}
+
+#[test]
+fn a_model_that_is_not_there_is_no_model() {
+    assert_eq!(
+        collection::named("no-such-model").map(|model| model.name),
+        Err("no model no-such-model".into())
+    );
 }
 
 #[test]

@@ -3,10 +3,7 @@
 use std::io::{self, Read, Write};
 use std::process::ExitCode;
 
-use second::check;
-
-/// "with a table of 49,152 bytes and a trace of 4,096".
-const LENGTHS: [usize; 2] = [49_152, 4_096];
+use second::{check, PRINTING};
 
 const USAGE: &str =
     "usage: second [TABLE [TRACE]] < PROGRAM   (lengths in bytes, 49152 and 4096 if not given)";
@@ -33,7 +30,7 @@ fn run(table: usize, trace: usize) -> io::Result<()> {
 
 /// The lengths that the command line gives, in place of those of document 01.
 fn lengths() -> Option<[usize; 2]> {
-    let mut lengths = LENGTHS;
+    let mut lengths = PRINTING;
     for (place, argument) in std::env::args().skip(1).enumerate() {
         *lengths.get_mut(place)? = argument.parse().ok()?;
     }

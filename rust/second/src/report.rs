@@ -18,7 +18,8 @@ pub enum Answer {
     NotRobust { count: usize, steps: usize, witness: Witness },
     /// 11, printed as FU
     Full { count: usize },
-    /// 10, with the bounds of the wanted length: "at least the number of steps and at most the number of places written"
+    /// 10, with the bounds of the wanted length: "at least the number of steps and at most the number of places
+    /// written"
     ShortTrace { wanted: RangeInclusive<usize> },
     /// 1 to 9
     Refused { number: u8 },
@@ -46,6 +47,9 @@ const MOST_PLACES: usize = 1_000_000_000;
 pub fn place_size(threads: usize, locations: usize) -> usize {
     9 + threads * (6 + 4 * locations) + locations * (3 + 4 * locations)
 }
+
+/// The printing program has "a table of 49,152 bytes and a trace of 4,096".
+pub const PRINTING: [usize; 2] = [49_152, 4_096];
 
 /// The report on program bytes, with a table and a trace of these lengths.
 pub fn check(bytes: &[u8], table: usize, trace: usize) -> Report {

@@ -3,6 +3,7 @@
 use crate::events::Events;
 use crate::limits::{LOCATIONS, REGISTERS};
 use crate::state::{History, State};
+use crate::thread::Thread;
 
 /// A set of locations or of values, one bit for each member: the lowest for 0.
 pub type Set = u16;
@@ -56,10 +57,10 @@ impl Situation {
     pub fn of(state: &State) -> Situation {
         let History { graph, events_of, .. } = &*state.history;
         let history = &*state.history;
+        let starts = history.locations(|newest| graph.is_start(newest));
         let thread = |(thread, events): (usize, &Events)| {
             let (readable, writable) = history.values(events);
-            let starts = history.locations(|newest| graph.is_start(newest));
-            let crate::Thread { line, registers } = state.threads[thread];
+            let Thread { line, registers } = state.threads[thread];
             ThreadPart { line, registers, seen: starts | history.seen(events), readable, writable }
         };
         let location = |location| {

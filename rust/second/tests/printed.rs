@@ -31,8 +31,7 @@ fn prints(arguments: &[&str], input: &[u8], expected: &str) {
 }
 
 fn model(name: &str) -> Vec<u8> {
-    let models = collection::load(&collection::directory()).unwrap();
-    models.into_iter().find(|model| model.name == name).unwrap_or_else(|| panic!("no model {name}")).bytes
+    collection::named(name).unwrap().bytes
 }
 
 #[test]

@@ -116,3 +116,12 @@ fn a_read_is_an_access_and_no_write() {
     };
     assert_eq!(after(&program, &[1, 1]), expected);
 }
+
+#[test]
+fn only_the_next_write_counts_as_following() {
+    // x := 1; FADD(x, 1) ‖ nothing, K = 3: the first 0 is followed by a plain write, the 1 by a read-modify-write.
+    let program = read(b"PR\x02\x02\x03TH\x02IN\x05\x00\x00\x01\x00IN\x07\x01\x00\x01\x00TH\x00").unwrap();
+    let found = after(&program, &[1, 1]);
+    assert_eq!((found.threads[1].readable[0], found.threads[1].writable[0]), (0b011, 0b001));
+    assert_eq!((found.locations[1].readable[0], found.locations[1].writable[0]), (0b011, 0b001));
+}

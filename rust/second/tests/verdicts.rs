@@ -7,8 +7,7 @@ const TRACE: usize = 4_096;
 
 /// The bytes of a model. That they are those of document 01 is tested where the models are.
 fn model(name: &str) -> Vec<u8> {
-    let models = collection::load(&collection::directory()).unwrap();
-    models.into_iter().find(|model| model.name == name).unwrap_or_else(|| panic!("no model {name}")).bytes
+    collection::named(name).unwrap().bytes
 }
 
 /// The answer is this one, so many places are written, and the trace gets these bytes.

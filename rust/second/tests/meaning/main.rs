@@ -127,9 +127,7 @@ fn situations_are_numbered_by_their_first_schedules() {
 #[test]
 fn situations_of_loops_are_numbered_by_their_first_schedules() {
     for name in ["sb-forever", "barrier-loop", "barrier-cas-loop", "counting-loop"] {
-        let models = collection::load(&collection::directory()).unwrap();
-        let bytes = models.into_iter().find(|model| model.name == name).unwrap().bytes;
-        let program = read(&bytes).unwrap();
+        let program = read(&collection::named(name).unwrap().bytes).unwrap();
         let search = Search::new(&program, PLACES);
         let last = search.places.len();
         let expected = numbered(&program, search.schedule(last).len());

@@ -1,0 +1,39 @@
+//! `order_compare [PROGRAMS [SEED]]`: compares the two checkers on random programs, 100,000 if not said otherwise.
+
+use std::process::ExitCode;
+use std::time::Instant;
+
+use compare::checker::{compare_program, random_program, Tally};
+use models::encode;
+use random::Numbers;
+
+const USAGE: &str = "usage: order_compare [PROGRAMS [SEED]]   (100000 programs of seed 1 if not given)";
+
+fn main() -> ExitCode {
+    let mut settings = [100_000, 1];
+    for (place, argument) in std::env::args().skip(1).enumerate() {
+        match (settings.get_mut(place), argument.parse()) {
+            (Some(setting), Ok(number)) => *setting = number,
+            _ => {
+                eprintln!("{USAGE}");
+                return ExitCode::from(2);
+            }
+        }
+    }
+    let [programs, seed] = settings;
+    let mut numbers = Numbers::new(seed);
+    let mut tally = Tally::default();
+    let start = Instant::now();
+    for number in 1..=programs {
+        let bytes = encode(&random_program(&mut numbers));
+        if let Err(difference) = compare_program(&bytes, &mut numbers, &mut tally) {
+            println!("program {number} of seed {seed}: {difference}");
+            return ExitCode::FAILURE;
+        }
+        if number % 10_000 == 0 {
+            eprintln!("{number} programs, {} s", start.elapsed().as_secs());
+        }
+    }
+    println!("no difference in {} s: {tally:?}", start.elapsed().as_secs());
+    ExitCode::SUCCESS
+}

@@ -1,0 +1,92 @@
+//! Which programs and lengths are compared.
+
+use models::disassemble;
+use random::{program, Numbers, Shape};
+use second::{Answer, Ending, Program};
+
+use super::difference::{difference, Expected, Lengths};
+
+/// The search of a random program ends at so many places.
+const PLACES: usize = 600;
+
+/// A random program for the comparison: mostly of two to four threads.
+pub fn random_program(numbers: &mut Numbers) -> Program {
+    let shape = match numbers.below(10) {
+        0..=4 => Shape::racing(),
+        5..=6 => Shape::looping(),
+        7..=8 => Shape::wide(),
+        _ => Shape::crowded(),
+    };
+    program(numbers, &shape)
+}
+
+/// Several lengths at which something changes for a program: places that just suffice or just don't, none, some, and
+/// more than enough; a trace that is just long enough or just too short.
+pub fn lengths(numbers: &mut Numbers, expected: &Expected) -> Vec<Lengths> {
+    let size = expected.place_size();
+    let Some(search) = expected.search() else {
+        return vec![Lengths { table: 100, trace: 10 }, Lengths { table: 0, trace: 0 }];
+    };
+    let found = search.places.len();
+    let just = found * size;
+    let steps = search.schedule(found).len();
+    // Where the search was cut short, more places would find more.
+    let spare = if search.ending == Ending::Full { size - 1 } else { 3 * size + 5 };
+    let some = numbers.below(found + 1) * size + numbers.below(size);
+    vec![
+        Lengths { table: just, trace: steps },
+        Lengths { table: just - 1, trace: steps },
+        Lengths { table: just + numbers.below(spare + 1), trace: steps + 1 + numbers.below(9) },
+        Lengths { table: just + spare, trace: steps.saturating_sub(1) },
+        Lengths { table: just, trace: numbers.below(steps + 1) },
+        Lengths { table: some.min(just), trace: 0 },
+        Lengths { table: numbers.below(size), trace: numbers.below(5) },
+    ]
+}
+
+/// How often each answer was compared.
+#[derive(Clone, Copy, Debug, Default, PartialEq, Eq)]
+pub struct Tally {
+    /// Programs compared.
+    pub programs: usize,
+    /// RB
+    pub robust: usize,
+    /// NR
+    pub not_robust: usize,
+    /// FU
+    pub full: usize,
+    /// 10
+    pub short_trace: usize,
+    /// 1 to 9
+    pub refused: usize,
+    /// Places that were decoded and compared in one call each.
+    pub places: usize,
+}
+
+impl Tally {
+    fn note(&mut self, answer: &Answer, places: usize) {
+        self.places += places;
+        *match answer {
+            Answer::Robust { .. } => &mut self.robust,
+            Answer::NotRobust { .. } => &mut self.not_robust,
+            Answer::Full { .. } => &mut self.full,
+            Answer::ShortTrace { .. } => &mut self.short_trace,
+            Answer::Refused { .. } => &mut self.refused,
+        } += 1;
+    }
+}
+
+/// Compares the two checkers on program bytes with several lengths, or says how they differ.
+pub fn compare_program(bytes: &[u8], numbers: &mut Numbers, tally: &mut Tally) -> Result<(), String> {
+    let expected = Expected::new(bytes, PLACES);
+    tally.programs += 1;
+    for lengths in lengths(numbers, &expected) {
+        if let Some(difference) = difference(bytes, &expected, lengths) {
+            let text = disassemble(bytes).unwrap_or_else(|number| format!("refused by check {number}"));
+            return Err(format!("{difference}\nwith {lengths:?} for {bytes:?}\n{text}"));
+        }
+        let report = expected.report(lengths);
+        tally.note(&report.answer, report.places.len());
+    }
+    Ok(())
+}

@@ -1,0 +1,58 @@
+//! The cases of document 01 as the library answers them, in numbers.
+
+use compare::checker::{check, Answer};
+use models::collection;
+
+/// The bytes of a model.
+fn model(name: &str) -> Vec<u8> {
+    collection::named(name).unwrap().bytes
+}
+
+/// The answer with so much lent, as eight numbers, and the trace after it, which was lent with 9s.
+fn answer(bytes: &[u8], table: usize, trace: usize) -> ([u64; 8], Vec<u8>) {
+    let (mut table, mut trace) = (vec![7; table], vec![9; trace]);
+    let Answer { verdict, number, count, steps, thread, kind, location, value } =
+        check(bytes, &mut table, &mut trace);
+    ([verdict, number, count, steps, thread, kind, location, value], trace)
+}
+
+const RB: u64 = 0;
+const NR: u64 = 1;
+const FU: u64 = 2;
+const REFUSED: u64 = 3;
+
+#[test]
+fn sb() {
+    let sb = model("sb");
+    assert_eq!(answer(&sb, 413, 4), ([NR, 0, 7, 3, 2, 1, 0, 0], vec![1, 1, 2, 9]));
+    assert_eq!(answer(&sb, 412, 4), ([FU, 11, 6, 0, 0, 0, 0, 0], vec![9; 4]));
+    assert_eq!(answer(&sb, 413, 3), ([NR, 0, 7, 3, 2, 1, 0, 0], vec![1, 1, 2]));
+    let ([verdict, number, count, wanted, rest @ ..], trace) = answer(&sb, 413, 2);
+    assert_eq!((verdict, number, count, rest, trace), (REFUSED, 10, 0, [0; 4], vec![9; 2]));
+    assert!((3..=7).contains(&wanted), "{wanted}");
+}
+
+#[test]
+fn mp() {
+    assert_eq!(answer(&model("mp"), 767, 1), ([RB, 0, 13, 0, 0, 0, 0, 0], vec![9]));
+    assert_eq!(answer(&model("mp"), 766, 1), ([FU, 11, 12, 0, 0, 0, 0, 0], vec![9]));
+}
+
+#[test]
+fn two_writes_barrier_and_the_empty_thread() {
+    assert_eq!(answer(&model("2+2w"), 49_152, 3), ([NR, 0, 8, 3, 2, 2, 0, 0], vec![1, 1, 2]));
+    assert_eq!(answer(&model("barrier"), 49_152, 0).0, [RB, 0, 7, 0, 0, 0, 0, 0]);
+    assert_eq!(answer(b"PR\x01\x01\x02TH\x00", 26, 0).0, [RB, 0, 1, 0, 0, 0, 0, 0]);
+    assert_eq!(answer(b"PR\x01\x01\x02TH\x00", 25, 0).0, [FU, 11, 0, 0, 0, 0, 0, 0]);
+}
+
+#[test]
+fn refused_programs() {
+    let jump = |target| [b"PR\x01\x01\x02TH\x01IN\x04\x00".as_slice(), &[target], b"\x01\x00"].concat();
+    let more = [model("sb").as_slice(), b"\x00"].concat();
+    let k_is_1 = b"PR\x01\x01\x01TH\x00".to_vec();
+    for (bytes, number) in [(vec![], 1), (k_is_1, 2), (more, 9), (jump(2), 7)] {
+        assert_eq!(answer(&bytes, 500, 3), ([REFUSED, number, 0, 0, 0, 0, 0, 0], vec![9; 3]));
+    }
+    assert_eq!(answer(&jump(1), 500, 0).0, [RB, 0, 2, 0, 0, 0, 0, 0]);
+}

@@ -1,0 +1,65 @@
+//! The printing program against the lines that the second program prints.
+
+use std::env;
+use std::io::Write;
+use std::path::{Path, PathBuf};
+use std::process::{Command, Stdio};
+
+use compare::checker::random_program;
+use models::{collection, encode};
+use random::{damage, Numbers};
+use second::{check, PRINTING};
+
+/// `target/bin/order_check` at the root of the repository, or the program that `ORDER_CHECK` names.
+fn program() -> PathBuf {
+    let made = Path::new(env!("CARGO_MANIFEST_DIR")).join("../../target/bin/order_check");
+    env::var_os("ORDER_CHECK").map_or(made, PathBuf::from)
+}
+
+#[track_caller]
+fn same(bytes: &[u8]) {
+    let mut child = Command::new(program())
+        .stdin(Stdio::piped())
+        .stdout(Stdio::piped())
+        .spawn()
+        .unwrap_or_else(|error| panic!("{}: {error}", program().display()));
+    // A program that refuses its input may be gone before all of it is written.
+    let _ = child.stdin.take().unwrap().write_all(bytes);
+    let printed = child.wait_with_output().unwrap().stdout;
+    let [table, trace] = PRINTING;
+    let expected = check(bytes, table, trace).to_string();
+    assert_eq!(String::from_utf8_lossy(&printed), expected, "of the bytes {bytes:?}");
+}
+
+#[test]
+fn on_every_model() {
+    let models = collection::load(&collection::directory()).unwrap();
+    assert!(models.len() >= 46, "only {} models", models.len());
+    models.iter().for_each(|model| same(&model.bytes));
+}
+
+#[test]
+fn on_random_and_damaged_programs() {
+    let mut numbers = Numbers::new(1);
+    for _ in 0..150 {
+        let mut bytes = encode(&random_program(&mut numbers));
+        same(&bytes);
+        damage(&mut numbers, &mut bytes);
+        same(&bytes);
+    }
+}
+
+#[test]
+fn on_inputs_longer_than_any_program() {
+    // Eight threads of 64 lines have 3,613 bytes.
+    let line = b"IN\x06\x00\x00\x00\x00";
+    let thread = [b"TH\x40".as_slice(), &line.repeat(64)].concat();
+    let longest = [b"PR\x08\x01\x02".as_slice(), &thread.repeat(8)].concat();
+    assert_eq!(longest.len(), 3_613);
+    same(&longest);
+    same(&[longest.as_slice(), b"\x00"].concat());
+    same(&[longest.as_slice(), &vec![0; 100_000]].concat());
+    // The first failed check counts, however long the rest is.
+    same(&[b"PR\x09\x01\x02".as_slice(), &vec![0; 100_000]].concat());
+    same(&[b"PR\x01\x01\x02TH\x41".as_slice(), &vec![0; 100_000]].concat());
+}

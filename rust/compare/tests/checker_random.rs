@@ -1,0 +1,33 @@
+//! The two checkers on random programs and on damaged ones, with several lengths and two fillings of what is lent.
+
+use compare::checker::{compare_program, random_program, Tally};
+use models::encode;
+use random::{damage, program, Numbers, Shape};
+
+#[test]
+fn on_random_programs() {
+    let mut numbers = Numbers::new(1);
+    let mut tally = Tally::default();
+    for number in 1..=4_000 {
+        let bytes = encode(&random_program(&mut numbers));
+        if let Err(difference) = compare_program(&bytes, &mut numbers, &mut tally) {
+            panic!("program {number}: {difference}");
+        }
+    }
+    let Tally { robust, not_robust, full, short_trace, .. } = tally;
+    assert!([robust, not_robust, full, short_trace].iter().all(|&count| count >= 500), "{tally:?}");
+}
+
+#[test]
+fn on_damaged_programs() {
+    let mut numbers = Numbers::new(2);
+    let mut tally = Tally::default();
+    for number in 1..=4_000 {
+        let mut bytes = encode(&program(&mut numbers, &Shape::small()));
+        damage(&mut numbers, &mut bytes);
+        if let Err(difference) = compare_program(&bytes, &mut numbers, &mut tally) {
+            panic!("input {number}: {difference}");
+        }
+    }
+    assert!(tally.refused >= 5_000 && tally.robust >= 500, "{tally:?}");
+}
