@@ -1,0 +1,4 @@
+pub mod Pieces
+pub mod Tables
+pub mod Queues
+pub mod Backs
