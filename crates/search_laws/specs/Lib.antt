@@ -1,3 +1,4 @@
 pub mod Written
 pub mod Queued
 pub mod BackIn
+pub mod Searching
