@@ -8,14 +8,8 @@ use mathlib.Core.List.{List, [], _∷_}
 use lib.ListN.{length}
 use Rattle.program.specs.Program.{constant, Line, write, read, wait, Program}
 use Rattle.program.specs.Thread.{Read, Write}
-use Rattle.program_bytes.specs.Outcome.{check, andThen, accepted}
-use Rattle.program_bytes.specs.Ops.{isOp, opAt, opTable, sumOp}
-use Rattle.program_bytes.specs.Format.{startsWith, isRecord, isOperand, operand, whenUsed, zeroUnlessUsed, usesTarget}
-use Rattle.program_bytes.specs.Format.{isRegAndRest, isTarget, areOperands, fieldsToLine, readLine, readLines, readThread}
-use Rattle.program_bytes.specs.Format.{readThreads, areInRange, endsAfter, readProgram}
+use Rattle.program_bytes.specs.Outcome.{accepted}
 use Rattle.program_bytes.specs.Spelling.{Valid, operandByte, spellLine, spellLines, spellThread, spellThreads, spell}
-use Rattle.program_bytes.proofs.RoundTrip.{accepted-is-spelling}
-use Rattle.program_bytes.proofs.ValidLaws.{within-valid}
 use Rattle.model.specs.Witness.{Robust, NotRobust}
 use Rattle.rules.specs.Situation.{Situation}
 use Rattle.rules.specs.Ending.{Ending}
@@ -23,13 +17,8 @@ use Rattle.rules.proofs.Searched.{searchedOn}
 use Rattle.numbering.specs.Numbering.{Entry}
 use Rattle.numbering.specs.Verdict.{Verdict, Outcome, found, full, closed}
 use Rattle.verdicts.specs.Search.{verdictOf}
-use Rattle.verdicts.proofs.SearchLaws.{verdict-by-search}
+use Rattle.verdicts.proofs.Computed.{readOn, accepted-valid, by-search}
 use Rattle.verdicts.proofs.Promises.{closed-is-robust, found-is-not-robust}
-
--- The verdict, computed.
-by-search : {p : Program} → Valid p → (N : ℕ) → verdictOf p N ≡ searchedOn p N
-unfolding searchedOn
-by-search valid N = verdict-by-search valid N
 
 module _ {p : Program} (valid : Valid p) (N : ℕ) where
   outcome-by-search : {o : Outcome (Entry Situation) Ending} → searchedOn p N .outcome ≡ o → verdictOf p N .outcome ≡ o
@@ -39,8 +28,9 @@ module _ {p : Program} (valid : Valid p) (N : ℕ) where
   count-by-search e = ap (λ (v : Verdict (Entry Situation) Ending). length (v .places)) (by-search valid N) ∙ e
 
 -- A program whose spelling the reader gives back is valid.
-spelled-valid : (p : Program) → readProgram (spell p) ≡ accepted p → Valid p
-spelled-valid p e = within-valid (accepted-is-spelling (spell p) p e .1)
+spelled-valid : (p : Program) → readOn (spell p) ≡ accepted p → Valid p
+unfolding readOn
+spelled-valid p e = accepted-valid (spell p) e
 
 abbrev two : (values : ℕ) → List Line → List Line → Program
 two K one other = record { threads = one ∷ other ∷ []; locations = 2; values = K }
@@ -61,10 +51,8 @@ barrier = two 2 (write 0 (constant 1) ∷ wait 1 (constant 1) ∷ []) (write 1 (
 
 -- Reads a spelling back, by computing.
 reads-back : Program → Program → Type 0
-unfolding spell spellThreads spellThread spellLines spellLine operandByte readProgram isRecord startsWith areInRange
-    endsAfter readThreads readThread readLines readLine fieldsToLine check andThen isOp opAt opTable sumOp isRegAndRest
-    isTarget areOperands whenUsed zeroUnlessUsed usesTarget isOperand operand
-reads-back p q = readProgram (spell p) ≡ accepted q
+unfolding spell spellThreads spellThread spellLines spellLine operandByte readOn
+reads-back p q = readOn (spell p) ≡ accepted q
 
 valid-mp : Valid mp
 valid-mp = spelled-valid mp (unfold reads-back in refl)

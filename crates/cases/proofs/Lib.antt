@@ -1,0 +1,2 @@
+pub mod BySearch
+pub mod EveryCase

@@ -1,0 +1,120 @@
+-- Document 01, section "Cases, marked * where proved": the starred cases as entries of one table.
+use Prim.Native.Nat.{ℕ}
+use mathlib.Core.Path.{_≡_}
+use mathlib.Core.List.{List, [], _∷_, _++_}
+use lib.ListN.{length}
+use Rattle.program.specs.Thread.{Read, Write}
+use Rattle.program_bytes.specs.Format.{readProgram}
+use Rattle.answers.specs.Answer.{Answer, robust, notRobust, placesFull, traceShort, turnedDown, answerOf, traceAfter}
+
+-- What is handed in, the answer, and the lent trace at exit.
+pub record Case : Type 0 where
+  pub bytes : List ℕ
+  pub tableLength : ℕ
+  pub trace : List ℕ
+  pub answer : Answer
+  pub traceAtExit : List ℕ
+
+-- The definitions give what the case says.
+pub record Holds (c : Case) : Type 0 where
+  pub answered : answerOf (c .bytes) (c .tableLength) (length (c .trace)) ≡ c .answer
+  pub traced : traceAfter (readProgram (c .bytes)) (c .tableLength) (c .trace) ≡ c .traceAtExit
+
+-- "PR, T, L, K", "TH, n" and "IN, op, reg, target, A, B", with their marks in ASCII.
+abbrev header : (T L K : ℕ) → List ℕ
+header T L K = 80 ∷ 82 ∷ T ∷ L ∷ K ∷ []
+
+abbrev thread : (n : ℕ) → List ℕ
+thread n = 84 ∷ 72 ∷ n ∷ []
+
+abbrev line : (op reg target a b : ℕ) → List ℕ
+line op reg target a b = 73 ∷ 78 ∷ op ∷ reg ∷ target ∷ a ∷ b ∷ []
+
+-- Ops 4, 5, 6 and 9.
+abbrev jump : (target a : ℕ) → List ℕ
+jump target a = line 4 0 target a 0
+
+abbrev write : (location a : ℕ) → List ℕ
+write location a = line 5 0 location a 0
+
+abbrev read : (reg location : ℕ) → List ℕ
+read reg location = line 6 reg location 0 0
+
+abbrev wait : (location a : ℕ) → List ℕ
+wait location a = line 9 0 location a 0
+
+-- "Locations x = 0, y = 1"
+abbrev x : ℕ
+x = 0
+
+abbrev y : ℕ
+y = 1
+
+-- "SB: x := 1; read y ‖ y := 1; read x; K = 2."
+abbrev sb : List ℕ
+sb = header 2 2 2 ++ thread 2 ++ write x 1 ++ read 0 y ++ thread 2 ++ write y 1 ++ read 0 x
+
+-- "MP: x := 1; y := 1 ‖ read y; read x (two registers)."
+abbrev mp : List ℕ
+mp = header 2 2 2 ++ thread 2 ++ write x 1 ++ write y 1 ++ thread 2 ++ read 0 y ++ read 1 x
+
+-- "2+2W: x := 1; y := 2; read y ‖ y := 1; x := 2; read x; K = 3."
+abbrev twoPlusTwoW : List ℕ
+twoPlusTwoW =
+    header 2 2 3
+    ++ thread 3 ++ write x 1 ++ write y 2 ++ read 0 y
+    ++ thread 3 ++ write y 1 ++ write x 2 ++ read 0 x
+
+-- "Barrier: x := 1; wait y = 1 ‖ y := 1; wait x = 1."
+abbrev barrier : List ℕ
+barrier = header 2 2 2 ++ thread 2 ++ write x 1 ++ wait y 1 ++ thread 2 ++ write y 1 ++ wait x 1
+
+-- "PR 1 1 2, TH 0."
+abbrev nothing : List ℕ
+nothing = header 1 1 2 ++ thread 0
+
+-- One thread of one line, an op 4.
+abbrev jumping : (target : ℕ) → List ℕ
+jumping target = header 1 1 2 ++ thread 1 ++ jump target 1
+
+-- Five bytes of trace are lent where a case does not say how many: two more than the steps that are found.
+abbrev lent : List ℕ
+lent = 9 ∷ 8 ∷ 7 ∷ 6 ∷ 5 ∷ []
+
+-- A case in which the trace stays.
+abbrev staying : (bytes : List ℕ) (tableLength : ℕ) (trace : List ℕ) → Answer → Case
+staying bytes tableLength trace answer =
+    record { bytes = bytes; tableLength = tableLength; trace = trace; answer = answer; traceAtExit = trace }
+
+-- A case in which the trace gets the steps.
+abbrev getting : (bytes : List ℕ) (tableLength : ℕ) (trace : List ℕ) → Answer → (traceAtExit : List ℕ) → Case
+getting bytes tableLength trace answer traceAtExit =
+    record { bytes = bytes; tableLength = tableLength; trace = trace; answer = answer; traceAtExit = traceAtExit }
+
+-- "The place size for T = L = 2 is 59", and for T = L = 1 it is 26.
+unfoldable pub cases : List Case
+cases =
+    -- "SB .. 413 lent bytes: NR, count 7." "NR 7 3 2 R 0 0", "ST 1", "ST 1", "ST 2". "412: 11, count 6."
+    getting sb 413 lent (notRobust 7 3 2 Read x 0) (1 ∷ 1 ∷ 2 ∷ 6 ∷ 5 ∷ [])
+    ∷ staying sb 412 lent (placesFull 6)
+    -- "MP .. 767: RB 13." "766: 11, count 12."
+    ∷ staying mp 767 lent (robust 13)
+    ∷ staying mp 766 lent (placesFull 12)
+    -- "2+2W .. NR 8 3 2 W 0 0 with steps 1, 1, 2.": eight places
+    ∷ getting twoPlusTwoW 472 lent (notRobust 8 3 2 Write x 0) (1 ∷ 1 ∷ 2 ∷ 6 ∷ 5 ∷ [])
+    -- "Barrier .. RB 7.": seven places
+    ∷ staying barrier 413 lent (robust 7)
+    -- "PR 1 1 2, TH 0. 26 bytes: RB 1." "25: 11, count 0."
+    ∷ staying nothing 26 lent (robust 1)
+    ∷ staying nothing 25 lent (placesFull 0)
+    -- "SB with a trace of 2: 10." The wanted length lies between 3 steps and 7 places. "With 3: NR."
+    ∷ staying sb 413 (9 ∷ 8 ∷ []) (traceShort 3 7)
+    ∷ getting sb 413 (9 ∷ 8 ∷ 7 ∷ []) (notRobust 7 3 2 Read x 0) (1 ∷ 1 ∷ 2 ∷ [])
+    -- "Empty input: 1." "K = 1: 2." "One byte after the last record: 9."
+    ∷ staying [] 413 lent (turnedDown 1)
+    ∷ staying (header 1 1 1 ++ thread 0) 413 lent (turnedDown 2)
+    ∷ staying (nothing ++ 0 ∷ []) 413 lent (turnedDown 9)
+    -- "op 4 to line n: accepted; to n + 1: 7."
+    ∷ staying (jumping 1) 413 lent (robust 2)
+    ∷ staying (jumping 2) 413 lent (turnedDown 7)
+    ∷ []
