@@ -2,3 +2,5 @@ pub mod Puts
 pub mod Decimals
 pub mod LineLaws
 pub mod Printed
+pub mod Bound
+pub mod Examples
