@@ -80,10 +80,14 @@ steps-are-short (suc steps) (t ∷ trace) small =
 pub text-is-short : (report : Report) (trace : List ℕ) → Typed report → ((j : ℕ) → getD trace j 0 < 2 ^ 8)
     → length (textOf report trace) ≤ longestLine + longestStep * length trace
 unfolding textOf
-text-is-short (Robust count) trace h small = omega (arith, length-of-two markRB (decimal count), word-length count h)
-text-is-short (Full count) trace h small = omega (arith, length-of-two markFU (decimal count), word-length count h)
-text-is-short (Short wanted) trace h small = omega (arith, length-of-two markNO (decimal 10), word-length 10 (omega arith))
-text-is-short (Refused number) trace h small = omega (arith, length-of-two markNO (decimal number), byte-length number h)
+text-is-short (Robust count) trace h small =
+    omega (arith, length-of-two markRB (decimal count), word-length count h)
+text-is-short (Full count) trace h small =
+    omega (arith, length-of-two markFU (decimal count), word-length count h)
+text-is-short (Short wanted) trace h small =
+    omega (arith, length-of-two markNO (decimal 10), word-length 10 (omega arith))
+text-is-short (Refused number) trace h small =
+    omega (arith, length-of-two markNO (decimal number), byte-length number h)
 text-is-short (NotRobust count steps thread kind location value) trace h small =
     let last = (letter kind ∷ []) ∷ decimal location ∷ decimal value ∷ [] in
     omega (

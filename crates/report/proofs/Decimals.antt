@@ -1,10 +1,9 @@
 -- Laws of decimal numerals.
-use Prim.Native.Nat.{ℕ, zero, suc, _+_, _*_, _/_, _%_, _^_, _≤_, _<_}
+use Prim.Native.Nat.{ℕ, zero, suc, _/_, _%_, _^_, _≤_, _<_}
 use native.Mathlib.Decide.{decLt}
 use native.Mathlib.Nat.{pow-suc, div-lt-iff-lt-mul}
 use native.Mathlib.Omega.{arith}
-use mathlib.Core.Bool.{Bool, cond}
-use mathlib.Core.Path.{_≡_, refl, ap, sym, _∙_}
+use mathlib.Core.Path.{_≡_, ap, sym, _∙_}
 use mathlib.Core.List.{List, [], _∷_, _++_}
 use lib.ListN.{length, length-append}
 use borrow.Author.Tests.{lt-ltb, le-ltb}
@@ -13,11 +12,11 @@ use Rattle.report.specs.Text.{digit, decimalIn, decimal}
 -- A digit, with any room for one.
 one-digit : (most n : ℕ) → n < 10 → decimalIn (suc most) n ≡ digit n ∷ []
 unfolding decimalIn
-one-digit most n h = ap (λ (b : Bool). cond b (digit n ∷ []) (decimalIn most (n / 10) ++ digit (n % 10) ∷ [])) (lt-ltb n 10 h)
+one-digit most n h = rw (lt-ltb n 10 h)
 
 more-digits : (most n : ℕ) → 10 ≤ n → decimalIn (suc most) n ≡ decimalIn most (n / 10) ++ digit (n % 10) ∷ []
 unfolding decimalIn
-more-digits most n h = ap (λ (b : Bool). cond b (digit n ∷ []) (decimalIn most (n / 10) ++ digit (n % 10) ∷ [])) (le-ltb n 10 h)
+more-digits most n h = rw (le-ltb n 10 h)
 
 -- Room for more digits than there are changes nothing.
 same-digits : (most more n : ℕ) → n < most → n < more → decimalIn most n ≡ decimalIn more n

@@ -4,8 +4,7 @@ use native.Mathlib.Numerals.{add-one}
 use native.Mathlib.Omega.{arith}
 use mathlib.Core.Path.{_≡_, refl, ap, sym, _∙_}
 use mathlib.Core.List.{List, [], _∷_, _++_, append-assoc, append-nil}
-use lib.ListN.{length, getD, take, length-append}
-use lib.Seq.{take-suc}
+use lib.ListN.{length, getD}
 use Rattle.report.specs.Put.{Put}
 use Rattle.report.specs.Text.{decimal, space, newline, line, markST, stepLines}
 use Rattle.report.proofs.Puts.{put-nothing, put-then, put-as}
@@ -40,7 +39,8 @@ one-more-step (suc i) (t ∷ trace) h =
     ∙ sym (append-assoc (line (markST ∷ decimal t ∷ [])) (stepLines i trace) _)
 
 -- No lines stand past the end of the trace.
-no-more-steps : (i steps : ℕ) (trace : List ℕ) → length trace ≤ i → i ≤ steps → stepLines steps trace ≡ stepLines i trace
+no-more-steps : (i steps : ℕ) (trace : List ℕ) → length trace ≤ i → i ≤ steps
+    → stepLines steps trace ≡ stepLines i trace
 unfolding stepLines
 no-more-steps zero zero trace h k = refl
 no-more-steps zero (suc steps) [] h k = refl
@@ -60,6 +60,6 @@ module _ {d : List ℕ} {at : ℕ} (trace : List ℕ) where
   step-put {i} p h q =
       put-as (ap (λ (n : ℕ). stepLines n trace) (add-one i) ∙ one-more-step i trace h) (put-then p q)
 
-  pub steps-put : {i steps : ℕ} {e : List ℕ} {next : ℕ} → Put d at (stepLines i trace) e next → length trace ≤ i → i ≤ steps
-      → Put d at (stepLines steps trace) e next
+  pub steps-put : {i steps : ℕ} {e : List ℕ} {next : ℕ} → Put d at (stepLines i trace) e next → length trace ≤ i
+      → i ≤ steps → Put d at (stepLines steps trace) e next
   steps-put {i} {steps} p h k = put-as (no-more-steps i steps trace h k) p

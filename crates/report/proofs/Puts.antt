@@ -1,11 +1,11 @@
 -- Laws of printing at a cursor.
-use Prim.Native.Nat.{ℕ, zero, suc, _+_, _-_, _≤_, _<_, min}
+use Prim.Native.Nat.{ℕ, suc, _+_, _-_, _≤_, _<_, min}
 use native.Mathlib.Decide.{decLt}
 use native.Mathlib.Numerals.{add-one}
 use native.Mathlib.Omega.{arith}
 use mathlib.Core.Path.{_≡_, refl, ap, ap₂, sym, subst⁻¹, _∙_}
-use mathlib.Core.List.{List, [], _∷_, _++_, append-assoc, append-nil}
-use lib.ListN.{length, getD, take, drop, set, length-append, length-set}
+use mathlib.Core.List.{List, [], _∷_, _++_}
+use lib.ListN.{length, getD, take, set, length-append, length-set}
 use lib.Seq.{sets, length-sets, set-out, set-append-seam, append-snoc, take-nil, take-suc, take-all}
 use Rattle.report.specs.Put.{Put}
 use Rattle.report.specs.Text.{laid}
@@ -28,7 +28,7 @@ sets-then l i (x ∷ xs) ys = go (sets-then (set l i x) (suc i) xs ys) (decLt i 
         → sets l i (x ∷ xs ++ ys) ≡ sets (sets l i (x ∷ xs)) (i + min (suc (length xs)) (length l - i)) ys
     go rest (yes h) =
         let e : suc i + min (length xs) (length (set l i x) - suc i) ≡ i + min (suc (length xs)) (length l - i)
-              = omega (arith, length-set l i x) in
+        = omega (arith, length-set l i x) in
         rest ∙ ap (λ (n : ℕ). sets (sets (set l i x) (suc i) xs) n ys) e
     go rest (no n) =
         let past : length l ≤ i = omega arith in
@@ -70,7 +70,8 @@ pub put-one-more : {d e f : List ℕ} {at next last : ℕ} (l : List ℕ) (i : �
 put-one-more l i p h q =
     put-as (ap (λ (n : ℕ). take n l) (add-one i) ∙ take-suc l i 0 h) (put-then p q)
 
-pub put-all : {d e : List ℕ} {at next i : ℕ} (l : List ℕ) → Put d at (take i l) e next → length l ≤ i → Put d at l e next
+pub put-all : {d e : List ℕ} {at next i : ℕ} (l : List ℕ) → Put d at (take i l) e next → length l ≤ i
+    → Put d at l e next
 put-all {i = i} l p h = put-as (sym (take-all i l h)) p
 
 -- What is printed behind a front.

@@ -10,7 +10,6 @@ use witness::Kind;
 ghost use mathlib.Core.Path.{_≡_};
 ghost use Prim.Native.Nat.{min};
 ghost use lib.ListN.{length};
-ghost use Rattle.report.specs.Put.{Put};
 ghost use Rattle.report.specs.Text.{textOf, laid};
 
 // What the checker has to say of a program. Threads are numbered from 1.
@@ -39,8 +38,8 @@ pub enum Report {
     },
 }
 
-// Lays the text of a report, with the trace of its steps, in a lent buffer, as far as it reaches, and gives how many bytes
-// were written.
+// Lays the text of a report, with the trace of its steps, in a lent buffer, as far as that reaches, and gives how many
+// bytes were written.
 pub fn text(report: Report, trace: &[u8], out: &mut [u8]) -> usize
     ensures length { λ r. ⌜ r ≡ min (length (textOf report (now (trace .entry)))) (length (now (out .entry))) ⌝ }
     ensures written { λ r. ⌜ now (out .exit) ≡ laid (textOf report (now (trace .entry))) (now (out .entry)) ⌝ }

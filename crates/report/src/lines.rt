@@ -6,7 +6,7 @@ use witness::Kind;
 ghost use mathlib.Core.Path.{_≡_};
 ghost use mathlib.Core.List.{_∷_, [], _++_};
 ghost use Rattle.report.specs.Put.{Put};
-ghost use Rattle.report.specs.Text.{decimal, space, newline, line, letter, markST, markNR, stepLines};
+ghost use Rattle.report.specs.Text.{decimal, space, line, letter, markST, markNR, stepLines};
 
 // A line of a mark and one number.
 pub fn put_line(out: &mut [u8], at: usize, mark: &[u8], n: usize) -> usize

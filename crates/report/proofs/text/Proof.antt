@@ -61,9 +61,10 @@ same-length c = search needs
 returns : tie.Need-returns
 unfolding textOf
 returns c =
-    let a = c .before .before .before .before .before .before .before .before .before .before .args in
-    printed (a .report) _ (now (a .trace)) (c .before .before .before .before .before .before .report .given .1)
-    (c .before .before .put-line .ensures)
+    let put = c .before .before in
+    let told = put .before .before .before .before in
+    let a = told .before .before .before .before .args in
+    printed (a .report) _ (now (a .trace)) (told .report .given .1) (put .put-line .ensures)
 
 same-length-2 : tie.Need-same-length-2
 same-length-2 c = search needs
@@ -71,9 +72,12 @@ same-length-2 c = search needs
 returns-2 : tie.Need-returns-2
 unfolding textOf
 returns-2 c =
-    let a = c .before .before .before .before .before .before .before .before .before .before .before .before .before .args in
-    printed (a .report) _ (now (a .trace)) (c .before .before .before .before .before .before .before .before .before .report2 .given .1)
-    (put-then (c .before .before .before .before .before .before .put-witness .ensures) (c .before .before .put-steps .ensures))
+    let second = c .before .before in
+    let first = second .before .before .before .before in
+    let told = first .before .before .before in
+    let a = told .before .before .before .before .args in
+    printed (a .report) _ (now (a .trace)) (told .report2 .given .1)
+    (put-then (first .put-witness .ensures) (second .put-steps .ensures))
 
 same-length-3 : tie.Need-same-length-3
 same-length-3 c = search needs
@@ -81,9 +85,10 @@ same-length-3 c = search needs
 returns-3 : tie.Need-returns-3
 unfolding textOf
 returns-3 c =
-    let a = c .before .before .before .before .before .before .before .before .before .before .args in
-    printed (a .report) _ (now (a .trace)) (c .before .before .before .before .before .before .report3 .given .1)
-    (c .before .before .put-line2 .ensures)
+    let put = c .before .before in
+    let told = put .before .before .before .before in
+    let a = told .before .before .before .before .args in
+    printed (a .report) _ (now (a .trace)) (told .report3 .given .1) (put .put-line2 .ensures)
 
 same-length-4 : tie.Need-same-length-4
 same-length-4 c = search needs
@@ -91,9 +96,10 @@ same-length-4 c = search needs
 returns-4 : tie.Need-returns-4
 unfolding textOf
 returns-4 c =
-    let a = c .before .before .before .before .before .before .before .before .before .args in
-    printed (a .report) _ (now (a .trace)) (c .before .before .before .before .before .enum-told .given .1)
-    (c .before .before .put-line3 .ensures)
+    let put = c .before .before in
+    let told = put .before .before .before in
+    let a = told .before .before .before .before .args in
+    printed (a .report) _ (now (a .trace)) (told .enum-told .given .1) (put .put-line3 .ensures)
 
 same-length-5 : tie.Need-same-length-5
 same-length-5 c = search needs
@@ -101,9 +107,10 @@ same-length-5 c = search needs
 returns-5 : tie.Need-returns-5
 unfolding textOf
 returns-5 c =
-    let a = c .before .before .before .before .before .before .before .before .before .before .args in
-    printed (a .report) _ (now (a .trace)) (c .before .before .before .before .before .before .report4 .given .1)
-    (c .before .before .put-line4 .ensures)
+    let put = c .before .before in
+    let told = put .before .before .before .before in
+    let a = told .before .before .before .before .args in
+    printed (a .report) _ (now (a .trace)) (told .report4 .given .1) (put .put-line4 .ensures)
 
 pub text-spec : {M : Type 1} → statement M
 text-spec =

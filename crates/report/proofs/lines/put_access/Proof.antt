@@ -22,9 +22,12 @@ same-length c = search needs
 
 returns : tie.Need-returns
 returns c =
-    put-as (line-of-last-three _ _ _)
-    (put-then (put-then (put-then (c .before .before .before .before .before .before .before .before .before .before .before .before .before .before .put-kind .ensures) (c .before .before .before .before .before .before .before .before .before .before .put-field .ensures)) (c .before .before .before .before .before .before .put-field2 .ensures))
-    (c .before .before .put-byte .ensures))
+    let fourth = c .before .before in
+    let third = fourth .before .before .before .before in
+    let second = third .before .before .before .before in
+    let first = second .before .before .before .before in
+    let two = put-then (first .put-kind .ensures) (second .put-field .ensures) in
+    put-as (line-of-last-three _ _ _) (put-then (put-then two (third .put-field2 .ensures)) (fourth .put-byte .ensures))
 
 pub put-access-spec : {M : Type 1} → statement M
 put-access-spec =

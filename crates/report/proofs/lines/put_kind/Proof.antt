@@ -22,8 +22,10 @@ same-length c = search needs
 
 returns : tie.Need-returns
 returns c =
-    put-as (ap (λ (n : ℕ). space ∷ n ∷ []) (sym (c .before .before .before .letter-of .ensures)))
-    (put-then (c .before .before .before .before .before .before .before .put-byte .ensures) (c .before .before .put-byte2 .ensures))
+    let second = c .before .before in
+    let first = second .before .before .before .before .before in
+    put-as (ap (λ (n : ℕ). space ∷ n ∷ []) (sym (second .before .letter-of .ensures)))
+    (put-then (first .put-byte .ensures) (second .put-byte2 .ensures))
 
 pub put-kind-spec : {M : Type 1} → statement M
 put-kind-spec =

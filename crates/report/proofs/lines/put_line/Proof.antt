@@ -19,8 +19,11 @@ same-length c = search needs
 
 returns : tie.Need-returns
 returns c =
+    let third = c .before .before in
+    let second = third .before .before .before .before in
+    let first = second .before .before .before .before in
     put-as (line-of-two _ _)
-    (put-then (put-then (c .before .before .before .before .before .before .before .before .before .before .put-bytes .ensures) (c .before .before .before .before .before .before .put-field .ensures)) (c .before .before .put-byte .ensures))
+    (put-then (put-then (first .put-bytes .ensures) (second .put-field .ensures)) (third .put-byte .ensures))
 
 pub put-line-spec : {M : Type 1} → statement M
 put-line-spec =

@@ -24,8 +24,12 @@ same-length c = search needs
 
 returns : tie.Need-returns
 returns c =
-    put-then (put-then (put-then (c .before .before .before .before .before .before .before .before .before .before .before .before .before .before .put-bytes .ensures) (c .before .before .before .before .before .before .before .before .before .before .put-field .ensures)) (c .before .before .before .before .before .before .put-field2 .ensures))
-    (c .before .before .put-field3 .ensures)
+    let fourth = c .before .before in
+    let third = fourth .before .before .before .before in
+    let second = third .before .before .before .before in
+    let first = second .before .before .before .before in
+    put-then (put-then (put-then (first .put-bytes .ensures) (second .put-field .ensures)) (third .put-field2 .ensures))
+    (fourth .put-field3 .ensures)
 
 pub put-run-spec : {M : Type 1} → statement M
 put-run-spec =

@@ -36,14 +36,20 @@ loop-less c = search needs
 
 loop-again : tie.Need-loop-again Inv-loop μ-loop
 loop-again c =
-    let l = c .before .before .before .before .before .before .before .loop in
-    (search needs, step-put (now (c .before .before .before .before .before .before .before .before .before .before .args .trace)) (l .inv .1) (ltb-true _ _ (c .before .before .before .before .before .if1 .taken)) (c .before .before .put-step .ensures))
+    let put = c .before .before .put-step .ensures in
+    let turn = c .before .before .before .before .before in
+    let l = turn .before .before .loop in
+    let a = turn .before .before .before .before .before .args in
+    (search needs, step-put (now (a .trace)) (l .inv .1) (ltb-true _ _ (turn .if1 .taken)) put)
 
 same-length : tie.Need-same-length Inv-loop μ-loop
 same-length c = put-same-length (c .before .before .loop .inv .1)
 
 returns : tie.Need-returns Inv-loop μ-loop
-returns c = steps-put (now (c .before .before .before .before .before .args .trace)) (c .before .before .loop .inv .1) (ltb-false _ _ (c .if1 .left)) (search needs)
+returns c =
+    let l = c .before .before .loop in
+    let a = c .before .before .before .before .before .args in
+    steps-put (now (a .trace)) (l .inv .1) (ltb-false _ _ (c .if1 .left)) (search needs)
 
 same-length-2 : tie.Need-same-length-2 Inv-loop μ-loop
 same-length-2 c = put-same-length (c .before .loop .inv .1)
@@ -51,8 +57,9 @@ same-length-2 c = put-same-length (c .before .loop .inv .1)
 returns-2 : tie.Need-returns-2 Inv-loop μ-loop
 returns-2 c =
     let l = c .before .loop in
-    let e : c .before .before .before .before .args .steps ≡ l .i = omega arith in
-    put-as (ap (λ (n : ℕ). stepLines n (now (c .before .before .before .before .args .trace))) e) (l .inv .1)
+    let a = c .before .before .before .before .args in
+    let e : a .steps ≡ l .i = omega arith in
+    put-as (ap (λ (n : ℕ). stepLines n (now (a .trace))) e) (l .inv .1)
 
 pub put-steps-spec : {M : Type 1} → statement M
 put-steps-spec =

@@ -16,7 +16,9 @@ same-length c = search needs
 
 returns : tie.Need-returns
 returns c =
-    put-as (line-of-first-four _ _ _ _ _ _) (put-then (c .before .before .before .before .before .before .put-run .ensures) (c .before .before .put-access .ensures))
+    let second = c .before .before in
+    let first = second .before .before .before .before in
+    put-as (line-of-first-four _ _ _ _ _ _) (put-then (first .put-run .ensures) (second .put-access .ensures))
 
 pub put-witness-spec : {M : Type 1} → statement M
 put-witness-spec = tie.close (tie.spec put-run-requires put-access-requires same-length returns)

@@ -1,9 +1,8 @@
--- `report::put::put_decimal` meets its contract: the digits before the last are those of the tenth part, by the function
--- itself. The measure is the number.
-use Rattle.report.proofs.Puts.{put-then, put-as, put-same-length}
+-- `report::put::put_decimal` meets its contract: the digits before the last are those of the tenth part. The measure is
+-- the number.
+use Rattle.report.proofs.Puts.{put-then, put-as}
 use Rattle.report.proofs.Decimals.{decimal-of-digit, decimal-of-more}
 use native.Mathlib.Omega.{arith}
-use mathlib.Core.Path.{_∙_}
 use borrow.Author.Needs.{needs}
 use Prim.Native.Nat.{ℕ, _<_}
 use borrow.Fn.Kinds.{In}
@@ -25,39 +24,42 @@ given t = and 1 kinds.ps (is 1 kinds.ps μ-put-decimal t) self.Pre
 abbrev below : ℕ → In 1 kinds.ps
 below t = and 1 kinds.ps (falls 1 kinds.ps _<_ μ-put-decimal t) self.Pre
 
-cast-put-byte : (t : ℕ) → lts.Need-cast-put-byte (byte.Asked, byte.Learnt, below t, self.Post) (given t) self.Post
-cast-put-byte t c = search needs
+module _ (t : ℕ) where
+  cast-put-byte : lts.Need-cast-put-byte (byte.Asked, byte.Learnt, below t, self.Post) (given t) self.Post
+  cast-put-byte c = search needs
 
-add-put-byte : (t : ℕ) → lts.Need-add-put-byte (byte.Asked, byte.Learnt, below t, self.Post) (given t) self.Post
-add-put-byte t c = search needs
+  add-put-byte : lts.Need-add-put-byte (byte.Asked, byte.Learnt, below t, self.Post) (given t) self.Post
+  add-put-byte c = search needs
 
-put-byte-requires : (t : ℕ) → lts.Need-put-byte-requires (byte.Asked, byte.Learnt, below t, self.Post) (given t) self.Post
-put-byte-requires t c κs = search needs
+  put-byte-requires : lts.Need-put-byte-requires (byte.Asked, byte.Learnt, below t, self.Post) (given t) self.Post
+  put-byte-requires c κs = search needs
 
-same-length : (t : ℕ) → lts.Need-same-length (byte.Asked, byte.Learnt, below t, self.Post) (given t) self.Post
-same-length t c = search needs
+  same-length : lts.Need-same-length (byte.Asked, byte.Learnt, below t, self.Post) (given t) self.Post
+  same-length c = search needs
 
-returns : (t : ℕ) → lts.Need-returns (byte.Asked, byte.Learnt, below t, self.Post) (given t) self.Post
-returns t c = put-as (decimal-of-digit _ (omega arith)) (c .before .before .put-byte .ensures)
+  returns : lts.Need-returns (byte.Asked, byte.Learnt, below t, self.Post) (given t) self.Post
+  returns c = put-as (decimal-of-digit _ (omega arith)) (c .before .before .put-byte .ensures)
 
-put-decimal-requires : (t : ℕ) → lts.Need-put-decimal-requires (byte.Asked, byte.Learnt, below t, self.Post) (given t) self.Post
-put-decimal-requires t c κs = (omega arith, tt)
+  put-decimal-requires : lts.Need-put-decimal-requires (byte.Asked, byte.Learnt, below t, self.Post) (given t) self.Post
+  put-decimal-requires c κs = (omega arith, tt)
 
-cast-put-byte-2 : (t : ℕ) → lts.Need-cast-put-byte-2 (byte.Asked, byte.Learnt, below t, self.Post) (given t) self.Post
-cast-put-byte-2 t c = search needs
+  cast-put-byte-2 : lts.Need-cast-put-byte-2 (byte.Asked, byte.Learnt, below t, self.Post) (given t) self.Post
+  cast-put-byte-2 c = search needs
 
-add-put-byte-2 : (t : ℕ) → lts.Need-add-put-byte-2 (byte.Asked, byte.Learnt, below t, self.Post) (given t) self.Post
-add-put-byte-2 t c = search needs
+  add-put-byte-2 : lts.Need-add-put-byte-2 (byte.Asked, byte.Learnt, below t, self.Post) (given t) self.Post
+  add-put-byte-2 c = search needs
 
-put-byte-requires-2 : (t : ℕ) → lts.Need-put-byte-requires-2 (byte.Asked, byte.Learnt, below t, self.Post) (given t) self.Post
-put-byte-requires-2 t c κs = search needs
+  put-byte-requires-2 : lts.Need-put-byte-requires-2 (byte.Asked, byte.Learnt, below t, self.Post) (given t) self.Post
+  put-byte-requires-2 c κs = search needs
 
-same-length-2 : (t : ℕ) → lts.Need-same-length-2 (byte.Asked, byte.Learnt, below t, self.Post) (given t) self.Post
-same-length-2 t c = search needs
+  same-length-2 : lts.Need-same-length-2 (byte.Asked, byte.Learnt, below t, self.Post) (given t) self.Post
+  same-length-2 c = search needs
 
-returns-2 : (t : ℕ) → lts.Need-returns-2 (byte.Asked, byte.Learnt, below t, self.Post) (given t) self.Post
-returns-2 t c =
-    put-as (decimal-of-more _ (omega arith)) (put-then (c .before .before .before .before .before .before .put-decimal .ensures) (c .before .before .put-byte2 .ensures))
+  returns-2 : lts.Need-returns-2 (byte.Asked, byte.Learnt, below t, self.Post) (given t) self.Post
+  returns-2 c =
+      let second = c .before .before in
+      let first = second .before .before .before .before in
+      put-as (decimal-of-more _ (omega arith)) (put-then (first .put-decimal .ensures) (second .put-byte2 .ensures))
 
 pub +put-decimal-spec : {M : Type 1} → statement M
 +put-decimal-spec = close μ-put-decimal λ t. lts.spec (byte.Asked, byte.Learnt, below t, self.Post) (given t) self.Post

@@ -31,7 +31,10 @@ loop-less c = search needs
 
 loop-again : tie.Need-loop-again Inv-loop μ-loop
 loop-again c =
-    let l = c .before .before .before .before .before .before .loop in (search needs, put-one-more _ (l .i) (l .inv .1) (c .before .before .before .before .before .loop-test .taken) (c .before .before .put-byte .ensures))
+    let put = c .before .before .put-byte .ensures in
+    let turn = c .before .before .before .before .before in
+    let l = turn .before .loop in
+    (search needs, put-one-more _ (l .i) (l .inv .1) (turn .loop-test .taken) put)
 
 same-length : tie.Need-same-length Inv-loop μ-loop
 same-length c = put-same-length (c .before .loop .inv .1)
