@@ -1,0 +1,6 @@
+pub mod Puts
+pub mod Decimals
+pub mod LineLaws
+pub mod Printed
+pub mod Bound
+pub mod Examples
