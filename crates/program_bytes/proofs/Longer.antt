@@ -58,8 +58,8 @@ rest-of-front (suc size) (suc n) (b ∷ bytes) h =
     rest-of-front size n bytes (omega arith)
     ∙ ap (λ (k : ℕ). take k (drop size bytes)) (let e : n - size ≡ suc n - suc size = omega arith in e)
 
--- What a front and the whole input give: the same refusal, or the same part and, of what follows it, a front that is not
--- cut before so many bytes.
+-- What a front and the whole input give: the same refusal, or the same part and, of what follows it, a front that is
+-- not cut before so many bytes.
 data Alike {A : Type 0} (room : ℕ) (front whole : Outcome (A × List ℕ)) : Type 0 where
   refusals : (k : ℕ) → front ≡ refused k → whole ≡ refused k → Alike room front whole
   readings : (a : A) (rest : List ℕ) (n : ℕ) → room ≤ n → front ≡ accepted (a, take n rest)
