@@ -1,0 +1,57 @@
+-- Printed texts of document 01 and numerals of several digits. One table, one computed test over it.
+use Prim.Native.Nat.{ℕ}
+use Prim.Native.Char.{code}
+use Prim.Native.String.{String, [] as end, _∷_ as _then_}
+use mathlib.Core.Path.{_≡_, refl}
+use mathlib.Core.Bool.{Bool, true, false, _&&_}
+use mathlib.Core.List.{List, [], _∷_}
+use lib.Dec.{eqb}
+use Rattle.witness.specs.declared.Kind.the-variants.{Read, Write, Update}
+use Rattle.report.specs.declared.Report.{Report}
+use Rattle.report.specs.declared.Report.the-variants.{Robust, NotRobust, Full, Short, Refused}
+use Rattle.report.specs.Text.{decimalIn, decimal, line, letter, stepLines, textOf}
+
+-- A report, the trace that it comes with, and what is printed.
+record Example : Type 0 where
+  report : Report
+  trace : List ℕ
+  text : String
+
+abbrev example : Report → List ℕ → String → Example
+example report trace text = record { report = report; trace = trace; text = text }
+
+abbrev examples : List Example
+examples =
+    -- "For SB below the whole output is"
+    example (NotRobust 7 3 2 Read 0 0) (1 ∷ 1 ∷ 2 ∷ []) "NR 7 3 2 R 0 0\nST 1\nST 1\nST 2\n"
+    -- "2+2W .. NR 8 3 2 W 0 0 with steps 1, 1, 2."
+    ∷ example (NotRobust 8 3 2 Write 0 0) (1 ∷ 1 ∷ 2 ∷ []) "NR 8 3 2 W 0 0\nST 1\nST 1\nST 2\n"
+    -- "MP .. 767: RB 13. 766: 11, count 12."
+    ∷ example (Robust 13) [] "RB 13\n"
+    ∷ example (Full 12) [] "FU 12\n"
+    -- "SB .. 412: 11, count 6.", "PR 1 1 2, TH 0 .. 25: 11, count 0."
+    ∷ example (Full 6) [] "FU 6\n"
+    ∷ example (Full 0) [] "FU 0\n"
+    -- "One byte after the last record: 9."
+    ∷ example (Refused 9) [] "NO 9\n"
+    -- "SB with a trace of 2: 10."
+    ∷ example (Short 3) (0 ∷ 0 ∷ []) "NO 10\n"
+    -- digits of every kind, an update, and a trace that is longer than the run
+    ∷ example (NotRobust 1005 2 8 Update 7 15) (8 ∷ 1 ∷ 250 ∷ []) "NR 1005 2 8 M 7 15\nST 8\nST 1\n"
+    ∷ example (Robust 2346789) (1 ∷ []) "RB 2346789\n"
+    ∷ []
+
+-- The bytes are those of the text.
+abbrev spells : String → List ℕ → Bool
+spells end [] = true
+spells end (b ∷ bytes) = false
+spells (c then text) [] = false
+spells (c then text) (b ∷ bytes) = eqb (code c) b && spells text bytes
+
+abbrev passes : List Example → Bool
+passes [] = true
+passes (e ∷ es) = spells (e .text) (textOf (e .report) (e .trace)) && passes es
+
+pub every-example : passes examples ≡ true
+unfolding textOf line stepLines letter decimal decimalIn
+every-example = refl

@@ -1,0 +1,7 @@
+pub mod Puts
+pub mod Decimals
+pub mod Numerals
+pub mod LineLaws
+pub mod Printed
+pub mod Bound
+pub mod Examples

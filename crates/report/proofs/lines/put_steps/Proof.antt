@@ -1,0 +1,79 @@
+-- `report::lines::put_steps` meets its contract. The lines of the steps before the index have been printed.
+use Rattle.report.specs.Put.{Put}
+use Rattle.report.specs.Text.{stepLines}
+use Rattle.report.proofs.LineLaws.{no-steps-put, step-put, steps-put}
+use Rattle.report.proofs.Puts.{put-as, put-same-length}
+use borrow.Author.Tests.{ltb-true, ltb-false}
+use native.Mathlib.Omega.{arith}
+use mathlib.Core.Path.{_≡_, ap}
+use denote.Ref.{now}
+use Prim.Native.Nat.{ℕ, _-_, _≤_}
+use borrow.Author.Needs.{needs}
+use Rattle.report.proofs.lines.put_steps.Statement.{statement}
+use Rattle.report.proofs.lines.put_steps.Tie as tie
+
+abbrev Inv-loop : tie.InvT-loop
+Inv-loop out₀ at trace steps next₀ i₀ out next i =
+    (i ≤ steps) × Put out₀ at (stepLines i trace) out next
+
+abbrev μ-loop : tie.MeasureT-loop
+μ-loop out₀ at trace steps next₀ i₀ out next i = steps - i
+
+loop-holds : tie.Need-loop-holds Inv-loop μ-loop
+loop-holds c = (search needs, no-steps-put _)
+
+shared-slice-read-put-step : tie.Need-shared-slice-read-put-step Inv-loop μ-loop
+shared-slice-read-put-step c = search needs
+
+put-step-requires : tie.Need-put-step-requires Inv-loop μ-loop
+put-step-requires c κs = search needs
+
+add-i : tie.Need-add-i Inv-loop μ-loop
+add-i c = search needs
+
+loop-less : tie.Need-loop-less Inv-loop μ-loop
+loop-less c = search needs
+
+loop-again : tie.Need-loop-again Inv-loop μ-loop
+loop-again c =
+    let put = c .before .before .put-step .ensures in
+    let turn = c .before .before .before .before .before in
+    let l = turn .before .before .loop in
+    let a = turn .before .before .before .before .before .args in
+    (search needs, step-put (now (a .trace)) (l .inv .1) (ltb-true _ _ (turn .if1 .taken)) put)
+
+same-length : tie.Need-same-length Inv-loop μ-loop
+same-length c = put-same-length (c .before .before .loop .inv .1)
+
+returns : tie.Need-returns Inv-loop μ-loop
+returns c =
+    let l = c .before .before .loop in
+    let a = c .before .before .before .before .before .args in
+    steps-put (now (a .trace)) (l .inv .1) (ltb-false _ _ (c .if1 .left)) (search needs)
+
+same-length-2 : tie.Need-same-length-2 Inv-loop μ-loop
+same-length-2 c = put-same-length (c .before .loop .inv .1)
+
+returns-2 : tie.Need-returns-2 Inv-loop μ-loop
+returns-2 c =
+    let l = c .before .loop in
+    let a = c .before .before .before .before .args in
+    let e : a .steps ≡ l .i = omega arith in
+    put-as (ap (λ (n : ℕ). stepLines n (now (a .trace))) e) (l .inv .1)
+
+pub put-steps-spec : {M : Type 1} → statement M
+put-steps-spec =
+    tie.close
+    (tie.spec
+    Inv-loop
+    μ-loop
+    loop-holds
+    shared-slice-read-put-step
+    put-step-requires
+    add-i
+    loop-less
+    loop-again
+    same-length
+    returns
+    same-length-2
+    returns-2)

@@ -1,0 +1,58 @@
+-- `report::put::put_bytes` meets its contract. The bytes before the index have been printed.
+use Rattle.report.specs.Put.{Put}
+use Rattle.report.proofs.Puts.{put-nothing, put-one-more, put-all, put-same-length}
+use lib.ListN.{length, take}
+use Prim.Native.Nat.{_-_, _≤_}
+use borrow.Author.Needs.{needs}
+use Rattle.report.proofs.put.put_bytes.Statement.{statement}
+use Rattle.report.proofs.put.put_bytes.Tie as tie
+
+abbrev Inv-loop : tie.InvT-loop
+Inv-loop out₀ at bytes next₀ i₀ out next i =
+    (i ≤ length bytes) × Put out₀ at (take i bytes) out next
+
+abbrev μ-loop : tie.MeasureT-loop
+μ-loop out₀ at bytes next₀ i₀ out next i = length bytes - i
+
+loop-holds : tie.Need-loop-holds Inv-loop μ-loop
+loop-holds c = (search needs, put-nothing _ _)
+
+shared-slice-read-put-byte : tie.Need-shared-slice-read-put-byte Inv-loop μ-loop
+shared-slice-read-put-byte c = search needs
+
+put-byte-requires : tie.Need-put-byte-requires Inv-loop μ-loop
+put-byte-requires c κs = search needs
+
+add-i : tie.Need-add-i Inv-loop μ-loop
+add-i c = search needs
+
+loop-less : tie.Need-loop-less Inv-loop μ-loop
+loop-less c = search needs
+
+loop-again : tie.Need-loop-again Inv-loop μ-loop
+loop-again c =
+    let put = c .before .before .put-byte .ensures in
+    let turn = c .before .before .before .before .before in
+    let l = turn .before .loop in
+    (search needs, put-one-more _ (l .i) (l .inv .1) (turn .loop-test .taken) put)
+
+same-length : tie.Need-same-length Inv-loop μ-loop
+same-length c = put-same-length (c .before .loop .inv .1)
+
+returns : tie.Need-returns Inv-loop μ-loop
+returns c = put-all _ (c .before .loop .inv .1) (c .loop-test .left)
+
+pub put-bytes-spec : {M : Type 1} → statement M
+put-bytes-spec =
+    tie.close
+    (tie.spec
+    Inv-loop
+    μ-loop
+    loop-holds
+    shared-slice-read-put-byte
+    put-byte-requires
+    add-i
+    loop-less
+    loop-again
+    same-length
+    returns)

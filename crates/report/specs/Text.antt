@@ -1,0 +1,87 @@
+-- What is printed for a report: document 01, "The printing program". A byte is its number in ASCII.
+use Prim.Native.Nat.{ℕ, zero, suc, _+_, _/_, _%_}
+use mathlib.Core.Bool.{cond}
+use mathlib.Core.List.{List, [], _∷_, _++_}
+use lib.ListN.{length, take, drop}
+use lib.Dec.{ltb}
+use Rattle.witness.specs.declared.Kind.{Kind}
+use Rattle.witness.specs.declared.Kind.the-variants.{Read, Write, Update}
+use Rattle.report.specs.declared.Report.{Report}
+use Rattle.report.specs.declared.Report.the-variants.{Robust, NotRobust, Full, Short, Refused}
+
+-- The digits 0 to 9.
+abbrev pub digit : ℕ → ℕ
+digit d = 48 + d
+
+-- A number in at most so many decimal digits, the most significant first: those of its tenth part, then the last.
+unfoldable pub decimalIn : (most : ℕ) → ℕ → List ℕ
+decimalIn zero n = []
+decimalIn (suc most) n =
+    let longer = decimalIn most (n / 10) ++ digit (n % 10) ∷ [] in cond (ltb n 10) (digit n ∷ []) longer
+
+-- "the count", "the number": a number in decimal. (n + 1 digits are enough for n.)
+unfoldable pub decimal : ℕ → List ℕ
+decimal n = decimalIn (suc n) n
+
+-- "kind (R, W or M for read-modify-write)"
+unfoldable pub letter : Kind → ℕ
+letter Read = 82
+letter Write = 87
+letter Update = 77
+
+abbrev pub space : ℕ
+space = 32
+
+abbrev pub newline : ℕ
+newline = 10
+
+-- "Fields are separated by one space, and each line ends with a newline."
+unfoldable pub line : List (List ℕ) → List ℕ
+line [] = newline ∷ []
+line (field ∷ []) = field ++ newline ∷ []
+line (field ∷ next ∷ fields) = field ++ space ∷ line (next ∷ fields)
+
+-- "It prints RB ..; FU ..; NO ..; or NR .., then one ST line": the first field of each line.
+abbrev pub markRB : List ℕ
+markRB = 82 ∷ 66 ∷ []
+
+abbrev pub markFU : List ℕ
+markFU = 70 ∷ 85 ∷ []
+
+abbrev pub markNO : List ℕ
+markNO = 78 ∷ 79 ∷ []
+
+abbrev pub markNR : List ℕ
+markNR = 78 ∷ 82 ∷ []
+
+abbrev pub markST : List ℕ
+markST = 83 ∷ 84 ∷ []
+
+-- "one ST line with the thread for each step": of so many steps, those that are in the trace, "a byte a step".
+unfoldable pub stepLines : (steps : ℕ) → (trace : List ℕ) → List ℕ
+stepLines zero trace = []
+stepLines (suc steps) [] = []
+stepLines (suc steps) (thread ∷ trace) = line (markST ∷ decimal thread ∷ []) ++ stepLines steps trace
+
+-- "RB and the count; FU and the count; NO and the number; or NR, count, number of steps, thread, kind .., location and
+-- stale value, then one ST line with the thread for each step." Where the trace is too short, the number is 10.
+unfoldable pub textOf : Report → (trace : List ℕ) → List ℕ
+textOf (Robust count) trace = line (markRB ∷ decimal count ∷ [])
+textOf (Full count) trace = line (markFU ∷ decimal count ∷ [])
+textOf (Refused number) trace = line (markNO ∷ decimal number ∷ [])
+textOf (Short wanted) trace = line (markNO ∷ decimal 10 ∷ [])
+textOf (NotRobust count steps thread kind location value) trace =
+    line
+    (markNR
+    ∷ decimal count
+    ∷ decimal steps
+    ∷ decimal thread
+    ∷ (letter kind ∷ [])
+    ∷ decimal location
+    ∷ decimal value
+    ∷ [])
+    ++ stepLines steps trace
+
+-- A buffer in which a text has been laid: the text as far as the buffer reaches, then the other bytes as they were.
+abbrev pub laid : (text buffer : List ℕ) → List ℕ
+laid text buffer = take (length buffer) text ++ drop (length text) buffer

@@ -1,0 +1,64 @@
+// What is printed for a report, as bytes in a lent buffer: document 01, "The printing program".
+// The meaning is specs/Text.antt.
+mod lines;
+mod put;
+
+use crate::lines::put_line;
+use crate::lines::put_steps;
+use crate::lines::put_witness;
+use witness::Kind;
+ghost use mathlib.Core.Path.{_≡_};
+ghost use Prim.Native.Nat.{min};
+ghost use lib.ListN.{length};
+ghost use Rattle.report.specs.Text.{textOf, laid};
+
+// What the checker has to say of a program. Threads are numbered from 1.
+pub enum Report {
+    Robust {
+        count: usize,
+    },
+    NotRobust {
+        count: usize,
+        steps: usize,
+        thread: usize,
+        kind: Kind,
+        location: usize,
+        value: u8,
+    },
+    Full {
+        count: usize,
+    },
+    // Check 10: the trace is too short, and so long a one is wanted.
+    Short {
+        wanted: usize,
+    },
+    // The number of the check that failed.
+    Refused {
+        number: u8,
+    },
+}
+
+// Lays the text of a report, with the trace of its steps, in a lent buffer, as far as that reaches, and gives how many
+// bytes were written.
+pub fn text(report: Report, trace: &[u8], out: &mut [u8]) -> usize
+    ensures length { λ r. ⌜ r ≡ min (length (textOf report (now (trace .entry)))) (length (now (out .entry))) ⌝ }
+    ensures written { λ r. ⌜ now (out .exit) ≡ laid (textOf report (now (trace .entry))) (now (out .entry)) ⌝ }
+{
+    match report {
+        Report::Robust { count } => put_line(out, 0, b"RB", count),
+        Report::NotRobust {
+            count,
+            steps,
+            thread,
+            kind,
+            location,
+            value,
+        } => {
+            let next = put_witness(out, count, steps, thread, kind, location, value);
+            put_steps(out, next, trace, steps)
+        }
+        Report::Full { count } => put_line(out, 0, b"FU", count),
+        Report::Short { wanted: _ } => put_line(out, 0, b"NO", 10),
+        Report::Refused { number } => put_line(out, 0, b"NO", number as usize),
+    }
+}

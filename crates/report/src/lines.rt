@@ -1,0 +1,97 @@
+// The lines of the printed text.
+use crate::put::put_byte;
+use crate::put::put_bytes;
+use crate::put::put_field;
+use witness::Kind;
+ghost use mathlib.Core.Path.{_≡_};
+ghost use mathlib.Core.List.{_∷_, [], _++_};
+ghost use Rattle.report.specs.Put.{Put};
+ghost use Rattle.report.specs.Text.{decimal, space, line, letter, markST, markNR, stepLines};
+
+// A line of a mark and one number.
+pub fn put_line(out: &mut [u8], at: usize, mark: &[u8], n: usize) -> usize
+    ensures { λ r. ⌜ Put (now (out .entry)) at (line (now (mark .entry) ∷ decimal n ∷ [])) (now (out .exit)) r ⌝ }
+{
+    let next = put_bytes(out, at, mark);
+    let next = put_field(out, next, n);
+    put_byte(out, next, b'\n')
+}
+
+// The line of one step.
+fn put_step(out: &mut [u8], at: usize, thread: u8) -> usize
+    ensures { λ r. ⌜ Put (now (out .entry)) at (line (markST ∷ decimal thread ∷ [])) (now (out .exit)) r ⌝ }
+{
+    put_line(out, at, b"ST", thread as usize)
+}
+
+// The lines of the steps, as far as the trace has them.
+pub fn put_steps(out: &mut [u8], at: usize, trace: &[u8], steps: usize) -> usize
+    ensures { λ r. ⌜ Put (now (out .entry)) at (stepLines steps (now (trace .entry))) (now (out .exit)) r ⌝ }
+{
+    let mut next = at;
+    let mut i: usize = 0;
+    while i < steps && i < trace.len() {
+        next = put_step(out, next, trace[i]);
+        i = i + 1;
+    }
+    next
+}
+
+fn letter_of(kind: Kind) -> u8
+    ensures { λ r. ⌜ r ≡ letter kind ⌝ }
+{
+    match kind {
+        Kind::Read => b'R',
+        Kind::Write => b'W',
+        Kind::Update => b'M',
+    }
+}
+
+// A kind as a field behind another.
+fn put_kind(out: &mut [u8], at: usize, kind: Kind) -> usize
+    ensures { λ r. ⌜ Put (now (out .entry)) at (space ∷ letter kind ∷ []) (now (out .exit)) r ⌝ }
+{
+    let next = put_byte(out, at, b' ');
+    put_byte(out, next, letter_of(kind))
+}
+
+// The access that a line ends with: its kind, location and value.
+fn put_access(out: &mut [u8], at: usize, kind: Kind, location: usize, value: u8) -> usize
+    ensures { λ r. ⌜ Put (now (out .entry)) at
+        (space ∷ line ((letter kind ∷ []) ∷ decimal location ∷ decimal value ∷ [])) (now (out .exit)) r ⌝ }
+{
+    let next = put_kind(out, at, kind);
+    let next = put_field(out, next, location);
+    let next = put_field(out, next, value as usize);
+    put_byte(out, next, b'\n')
+}
+
+// The fields of an NR line up to the thread.
+fn put_run(out: &mut [u8], count: usize, steps: usize, thread: usize) -> usize
+    ensures { λ r. ⌜ Put (now (out .entry)) 0
+        (markNR ++ (space ∷ decimal count) ++ (space ∷ decimal steps) ++ (space ∷ decimal thread))
+        (now (out .exit)) r ⌝ }
+{
+    let next = put_bytes(out, 0, b"NR");
+    let next = put_field(out, next, count);
+    let next = put_field(out, next, steps);
+    put_field(out, next, thread)
+}
+
+// The NR line.
+pub fn put_witness(
+    out: &mut [u8],
+    count: usize,
+    steps: usize,
+    thread: usize,
+    kind: Kind,
+    location: usize,
+    value: u8,
+) -> usize
+    ensures { λ r. ⌜ Put (now (out .entry)) 0
+        (line (markNR ∷ decimal count ∷ decimal steps ∷ decimal thread ∷ (letter kind ∷ []) ∷ decimal location
+        ∷ decimal value ∷ [])) (now (out .exit)) r ⌝ }
+{
+    let next = put_run(out, count, steps, thread);
+    put_access(out, next, kind, location, value)
+}
