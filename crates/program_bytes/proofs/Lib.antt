@@ -18,3 +18,4 @@ pub mod Places
 pub mod Cases
 pub mod Bounds
 pub mod ValidLaws
+pub mod Longer

@@ -10,11 +10,11 @@ use borrow.Author.Tests.{lt-ltb, le-ltb}
 use Rattle.report.specs.Text.{digit, decimalIn, decimal}
 
 -- A digit, with any room for one.
-one-digit : (most n : ℕ) → n < 10 → decimalIn (suc most) n ≡ digit n ∷ []
+pub one-digit : (most n : ℕ) → n < 10 → decimalIn (suc most) n ≡ digit n ∷ []
 unfolding decimalIn
 one-digit most n h = rw (lt-ltb n 10 h)
 
-more-digits : (most n : ℕ) → 10 ≤ n → decimalIn (suc most) n ≡ decimalIn most (n / 10) ++ digit (n % 10) ∷ []
+pub more-digits : (most n : ℕ) → 10 ≤ n → decimalIn (suc most) n ≡ decimalIn most (n / 10) ++ digit (n % 10) ∷ []
 unfolding decimalIn
 more-digits most n h = rw (le-ltb n 10 h)
 

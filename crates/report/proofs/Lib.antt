@@ -1,5 +1,6 @@
 pub mod Puts
 pub mod Decimals
+pub mod Numerals
 pub mod LineLaws
 pub mod Printed
 pub mod Bound
