@@ -1,3 +1,4 @@
 pub mod Report
 pub mod Promises
 pub mod Inner
+pub mod Checked

@@ -1,0 +1,69 @@
+// The printing program: reads a program's bytes from standard input and writes the report's text to standard output.
+use checker::check;
+use libc::STDIN_FILENO;
+use libc::STDOUT_FILENO;
+use report::text;
+ghost use mathlib.Core.Path.{_≡_};
+ghost use lib.ListN.{length};
+ghost use Rattle.io.specs.Counts.{Counts};
+ghost use Rattle.order_check.specs.Printed.{Printed};
+
+// What is kept of standard input: more than the longest program, of 3,613 bytes, so that a longer input is judged by its
+// front (the theorem longer-judged-by-front).
+const INPUT: usize = 4096;
+
+// "a table of 49,152 bytes and a trace of 4,096"
+const TABLE: usize = 49152;
+
+const TRACE: usize = 4096;
+
+// Room for the longest text: a line of at most 93 bytes, and 7 for each byte of the trace (the theorem text-is-short).
+const TEXT: usize = 93 + 7 * TRACE;
+
+fn table() -> [u8; TABLE]
+    ensures { λ r. ⌜ 49152 ≡ length r ⌝ }
+{
+    [0; TABLE]
+}
+
+fn text_buffer() -> [u8; TEXT]
+    ensures { λ r. ⌜ 28765 ≡ length r ⌝ }
+{
+    [0; TEXT]
+}
+
+// Reads on and keeps nothing; says whether there was something.
+fn skip_some() -> bool {
+    let mut rest = io::buffer();
+    0 < libc::read(STDIN_FILENO, &mut rest)
+}
+
+// Reads to the end of standard input. Nothing says that it ends, so the turns are counted down from a number that no run
+// uses up.
+fn skip_rest() {
+    let mut turns = u64::MAX;
+    while turns > 0 && skip_some() {
+        turns = turns - 1;
+    }
+}
+
+// Checks a program and lays the report's text in the buffer; how many bytes of it are text.
+fn print(program: &[u8], places: &mut [u8], trace: &mut [u8], buffer: &mut [u8]) -> usize
+    ensures printed { λ r. ⌜ Printed (now (program .entry)) (length (now (places .entry))) (length (now (trace .entry)))
+        (now (trace .exit)) (now (buffer .entry)) (now (buffer .exit)) r ⌝ }
+    ensures counts { λ r. ⌜ Counts r (now (buffer .exit)) ⌝ }
+{
+    let report = check(program, places, trace);
+    text(report, trace, buffer)
+}
+
+fn main() {
+    let mut input = io::buffer();
+    let n = io::read_full(STDIN_FILENO, &mut input);
+    skip_rest();
+    let mut places = table();
+    let mut trace = io::buffer();
+    let mut lines = text_buffer();
+    let length = print(&input[..n], &mut places, &mut trace, &mut lines);
+    io::write_all(STDOUT_FILENO, &lines[..length]);
+}

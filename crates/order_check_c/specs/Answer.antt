@@ -1,0 +1,34 @@
+-- The answer of the checker in eight numbers, for C and Rust. order_check.h says the same in words.
+use Prim.Native.Nat.{ℕ}
+use mathlib.Core.Path.{_≡_}
+use mathlib.Core.List.{List, [], _∷_}
+use Rattle.witness.specs.declared.Kind.{Kind}
+use Rattle.witness.specs.declared.Kind.the-variants.{Read, Write, Update}
+use Rattle.report.specs.declared.Report.{Report}
+use Rattle.report.specs.declared.Report.the-variants.{Robust, NotRobust, Full, Short, Refused}
+use Rattle.checker.specs.Checked.{Checked}
+
+-- The number of a kind: 1 R, 2 W, 3 M.
+unfoldable pub kindNumber : Kind → ℕ
+kindNumber Read = 1
+kindNumber Write = 2
+kindNumber Update = 3
+
+-- Verdict, number, count, steps, thread, kind, location and value.
+abbrev pub eight : (verdict number count steps thread kind location value : ℕ) → List ℕ
+eight verdict number count steps thread kind location value =
+    verdict ∷ number ∷ count ∷ steps ∷ thread ∷ kind ∷ location ∷ value ∷ []
+
+-- Each report in these numbers; what it does not use is 0.
+unfoldable pub numbersOf : Report → List ℕ
+numbersOf (Robust count) = eight 0 0 count 0 0 0 0 0
+numbersOf (NotRobust count steps thread kind location value) = eight 1 0 count steps thread (kindNumber kind) location value
+numbersOf (Full count) = eight 2 11 count 0 0 0 0 0
+numbersOf (Short wanted) = eight 3 10 0 wanted 0 0 0 0
+numbersOf (Refused number) = eight 3 number 0 0 0 0 0 0
+
+-- The numbers of a report that keeps all that the checker promises of it.
+pub record Told (bytes : List ℕ) (tableLength traceLength : ℕ) (traceAtExit numbers : List ℕ) : Type 0 where
+  pub report : Report
+  pub told : numbers ≡ numbersOf report
+  pub checked : Checked bytes tableLength traceLength traceAtExit report
