@@ -1,8 +1,5 @@
-//! Compares the static libraries of the Rattle side with the second program: the reader, and with the feature
-//! `checker` the whole checker.
+//! The reader, `liborder_read_c.a`, and how it is compared with the second one.
 
-#[cfg(feature = "checker")]
-pub mod checker;
 mod expected;
 mod library;
 

@@ -4,7 +4,8 @@ use models::disassemble;
 use random::{program, Numbers, Shape};
 use second::{Answer, Ending, Program};
 
-use super::difference::{difference, Expected, Lengths};
+use super::difference::difference;
+use super::expected::{Expected, Lengths};
 
 /// The search of a random program ends at so many places.
 const PLACES: usize = 600;

@@ -1,0 +1,4 @@
+//! Compares the proved reader and the proved checker with the second program.
+
+pub mod checker;
+pub mod reader;
