@@ -6,7 +6,7 @@ mod inputs;
 mod lent;
 mod place;
 
-pub use difference::difference;
+pub use difference::{difference, difference_in_one_call};
 pub use expected::{Expected, Lengths};
 pub use inputs::{compare_program, lengths, random_program, Tally};
 pub use place::{decode, Written};

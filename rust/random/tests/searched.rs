@@ -102,6 +102,13 @@ const STEPS: [&str; 6] = [
 ];
 
 #[test]
+fn litmus_programs_are_often_not_robust() {
+    let met = met(5, &Shape::litmus());
+    met.at_least(100, &["op 5", "op 6", "op 7", "op 8", "a CAS that succeeds", "a CAS that fails"]);
+    met.at_least(10, &["RB", "FU", "NR by R", "NR by W", "NR by M"]);
+}
+
+#[test]
 fn racing_programs_meet_everything() {
     let met = met(1, &Shape::racing());
     met.at_least(100, &OPS);

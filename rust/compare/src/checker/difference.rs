@@ -13,9 +13,17 @@ use super::place::decode;
 pub fn difference(bytes: &[u8], expected: &Expected, lengths: Lengths) -> Option<String> {
     let report = expected.report(lengths);
     let first = Run::filled(bytes, lengths, filling);
-    let complement = Run::filled(bytes, lengths, |at| !filling(at));
-    let again = Run::new(bytes, first.table.again(), first.trace.again());
-    [first, complement, again].iter().find_map(|run| run.difference(&report, expected))
+    first.difference(&report, expected).or_else(|| {
+        let complement = Run::filled(bytes, lengths, |at| !filling(at));
+        let again = Run::new(bytes, first.table.again(), first.trace.again());
+        let other = |run: &Run| run.difference_from(&first, &report, expected);
+        [complement, again].iter().find_map(other)
+    })
+}
+
+/// The same by one call, for tables in which a search takes seconds.
+pub fn difference_in_one_call(bytes: &[u8], expected: &Expected, lengths: Lengths) -> Option<String> {
+    Run::filled(bytes, lengths, filling).difference(&expected.report(lengths), expected)
 }
 
 /// What is lent differs from byte to byte.
@@ -44,16 +52,29 @@ impl Run {
         if !agrees(self.answer, &report.answer) {
             return Some(format!("answer: expected {:?}, found {:?}", report.answer, self.answer));
         }
-        let written = report.places.len() * expected.place_size();
-        let changed = |what, at| format!("{what}: byte {at} changed");
-        self.place_difference(report, expected)
-            .or_else(|| self.table.changed(written).map(|at| changed("table", at)))
-            .or_else(|| {
-                let found = self.trace.front(report.trace.len());
-                let what = || format!("trace: expected {:?}, found {found:?}", report.trace);
-                (found != report.trace).then(what)
-            })
-            .or_else(|| self.trace.changed(report.trace.len()).map(|at| changed("trace", at)))
+        let found = self.trace.front(report.trace.len());
+        if found != report.trace {
+            return Some(format!("trace: expected {:?}, found {found:?}", report.trace));
+        }
+        self.place_difference(report, expected).or_else(|| self.changed(report, expected))
+    }
+
+    /// Where this run, with other memory, differs from one that is as expected.
+    fn difference_from(&self, first: &Run, report: &Report, expected: &Expected) -> Option<String> {
+        let written = [report.places.len() * expected.place_size(), report.trace.len()];
+        let of = |run: &Run| [run.table.front(written[0]).to_vec(), run.trace.front(written[1]).to_vec()];
+        if (self.answer, of(self)) != (first.answer, of(first)) {
+            return Some(format!("what was lent changes the answer {:?}, or what is written", first.answer));
+        }
+        self.changed(report, expected)
+    }
+
+    /// A byte that had to stay as it was.
+    fn changed(&self, report: &Report, expected: &Expected) -> Option<String> {
+        let table = self.table.changed(report.places.len() * expected.place_size());
+        let trace = self.trace.changed(report.trace.len());
+        let what = |what, at: Option<isize>| at.map(|at| format!("{what}: byte {at} changed"));
+        what("table", table).or(what("trace", trace))
     }
 
     /// The first place that differs.

@@ -7,22 +7,24 @@ use second::{Answer, Ending, Program};
 use super::difference::difference;
 use super::expected::{Expected, Lengths};
 
-/// The search of a random program ends at so many places.
-const PLACES: usize = 600;
+/// The search of a random program ends at so many places: the proved one compares each with all before it. The models
+/// have up to some 30,000.
+const PLACES: usize = 200;
 
 /// A random program for the comparison: mostly of two to four threads.
 pub fn random_program(numbers: &mut Numbers) -> Program {
     let shape = match numbers.below(10) {
-        0..=4 => Shape::racing(),
-        5..=6 => Shape::looping(),
-        7..=8 => Shape::wide(),
+        0..=2 => Shape::litmus(),
+        3..=5 => Shape::racing(),
+        6..=7 => Shape::looping(),
+        8 => Shape::wide(),
         _ => Shape::crowded(),
     };
     program(numbers, &shape)
 }
 
 /// Several lengths at which something changes for a program: places that just suffice or just don't, none, some, and
-/// more than enough; a trace that is just long enough or just too short.
+/// more than enough; where the trace is written, one that is just long enough, just too short, or any.
 pub fn lengths(numbers: &mut Numbers, expected: &Expected) -> Vec<Lengths> {
     let size = expected.place_size();
     let Some(search) = expected.search() else {
@@ -34,15 +36,18 @@ pub fn lengths(numbers: &mut Numbers, expected: &Expected) -> Vec<Lengths> {
     // Where the search was cut short, more places would find more.
     let spare = if search.ending == Ending::Full { size - 1 } else { 3 * size + 5 };
     let some = numbers.below(found + 1) * size + numbers.below(size);
-    vec![
+    let mut all = vec![
         Lengths { table: just, trace: steps },
         Lengths { table: just - 1, trace: steps },
         Lengths { table: just + numbers.below(spare + 1), trace: steps + 1 + numbers.below(9) },
-        Lengths { table: just + spare, trace: steps.saturating_sub(1) },
-        Lengths { table: just, trace: numbers.below(steps + 1) },
         Lengths { table: some.min(just), trace: 0 },
         Lengths { table: numbers.below(size), trace: numbers.below(5) },
-    ]
+    ];
+    if let Ending::Witness(_) = search.ending {
+        all.push(Lengths { table: just + spare, trace: steps.saturating_sub(1) });
+        all.push(Lengths { table: just, trace: numbers.below(steps + 1) });
+    }
+    all
 }
 
 /// How often each answer was compared.
