@@ -61,10 +61,15 @@ impl Run {
 
     /// Where this run, with other memory, differs from one that is as expected.
     fn difference_from(&self, first: &Run, report: &Report, expected: &Expected) -> Option<String> {
-        let written = [report.places.len() * expected.place_size(), report.trace.len()];
-        let of = |run: &Run| [run.table.front(written[0]).to_vec(), run.trace.front(written[1]).to_vec()];
-        if (self.answer, of(self)) != (first.answer, of(first)) {
-            return Some(format!("what was lent changes the answer {:?}, or what is written", first.answer));
+        if self.answer != first.answer {
+            return Some(format!("what was lent changes the answer {:?} to {:?}", first.answer, self.answer));
+        }
+        let places = report.places.len() * expected.place_size();
+        if self.table.front(places) != first.table.front(places) {
+            return Some("what was lent changes the places".into());
+        }
+        if self.trace.front(report.trace.len()) != report.trace {
+            return Some("what was lent changes the trace".into());
         }
         self.changed(report, expected)
     }
