@@ -16,7 +16,7 @@ fn on_random_programs() {
         }
     }
     let Tally { robust, not_robust, full, short_trace, .. } = tally;
-    assert!([robust, not_robust, full, short_trace].iter().all(|&count| count >= 500), "{tally:?}");
+    assert!([robust, not_robust, full, short_trace].iter().all(|&count| count >= 500), "{tally}");
 }
 
 #[test]
@@ -30,5 +30,5 @@ fn on_damaged_programs() {
             panic!("input {number}: {difference}");
         }
     }
-    assert!(tally.refused >= 30_000 && tally.robust >= 1_000, "{tally:?}");
+    assert!(tally.refused >= 30_000 && tally.robust >= 1_000, "{tally}");
 }

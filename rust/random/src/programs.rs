@@ -65,6 +65,17 @@ impl Shape {
     pub fn crowded() -> Shape {
         Shape { threads: 4..=*THREADS.end(), locations: 2..=2, values: 2..=3, lines: 1..=2, ops: RACES }
     }
+
+    /// One of the last five, for comparing searches: mostly of two to four threads.
+    pub fn mixed(numbers: &mut Numbers) -> Shape {
+        match numbers.below(10) {
+            0..=2 => Shape::litmus(),
+            3..=5 => Shape::racing(),
+            6..=7 => Shape::looping(),
+            8 => Shape::wide(),
+            _ => Shape::crowded(),
+        }
+    }
 }
 
 /// A program of the shape.

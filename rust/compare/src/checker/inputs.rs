@@ -1,5 +1,7 @@
 //! Which programs and lengths are compared.
 
+use std::fmt::{self, Display, Formatter};
+
 use models::disassemble;
 use random::{program, Numbers, Shape};
 use second::{Answer, Ending, Program};
@@ -11,15 +13,9 @@ use super::expected::{Expected, Lengths};
 /// have up to some 30,000.
 const PLACES: usize = 200;
 
-/// A random program for the comparison: mostly of two to four threads.
+/// A random program for the comparison.
 pub fn random_program(numbers: &mut Numbers) -> Program {
-    let shape = match numbers.below(10) {
-        0..=2 => Shape::litmus(),
-        3..=5 => Shape::racing(),
-        6..=7 => Shape::looping(),
-        8 => Shape::wide(),
-        _ => Shape::crowded(),
-    };
+    let shape = Shape::mixed(numbers);
     program(numbers, &shape)
 }
 
@@ -65,8 +61,16 @@ pub struct Tally {
     pub short_trace: usize,
     /// 1 to 9
     pub refused: usize,
-    /// Places that were decoded and compared in one call each.
+    /// Places compared, once for each time that they were due.
     pub places: usize,
+}
+
+impl Display for Tally {
+    fn fmt(&self, to: &mut Formatter) -> fmt::Result {
+        let Tally { programs, robust, not_robust, full, short_trace, refused, places } = self;
+        write!(to, "{programs} programs, {places} places; answers: ")?;
+        write!(to, "RB {robust}, NR {not_robust}, FU {full}, 10 {short_trace}, 1 to 9 {refused}")
+    }
 }
 
 impl Tally {
