@@ -6,8 +6,7 @@
  *
  *     cc caller.c target/staticlib/liborder_check_c.a
  *
- * "Document 01" is the specification; README.md lists the checks by their numbers, and docs/LAYOUT.md has the bytes of
- * a place.
+ * README.md lists the checks by their numbers, and docs/LAYOUT.md has the bytes of a place.
  */
 #ifndef ORDER_CHECK_H
 #define ORDER_CHECK_H
@@ -35,7 +34,8 @@ enum {
        at least the number of steps and at most the number of places written. */
     ORDER_STEPS = 3,
 
-    /* For ORDER_NR, as all that follows: the lowest thread, from 1, whose next line is a witness after these steps. */
+    /* For ORDER_NR, as all that follows: the lowest thread, from 1, whose next line can, after these steps, make an
+       access that no SC run has. */
     ORDER_THREAD = 4,
 
     /* The kind of its access: one of the three below. */

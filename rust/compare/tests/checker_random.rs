@@ -1,4 +1,4 @@
-//! The two checkers on random programs and on damaged ones, each with several lengths of table and trace, and each length
+//! The two checkers on random programs and on damaged ones, each with several lengths of table and trace, and these
 //! with two fillings of what is lent and in memory that was used before.
 
 use compare::checker::{compare_program, random_program, Tally};

@@ -61,7 +61,8 @@ pub fn decode(place: &[u8], threads: usize, locations: usize) -> Option<Written>
     bytes.0.is_empty().then_some(Written { from, by, fingerprint, due, situation })
 }
 
-/// The fingerprint "starts at 0 and becomes 33 times itself plus the byte, modulo 2^32, for each byte of the situation".
+/// The fingerprint "starts at 0 and becomes 33 times itself plus the byte, modulo 2^32, for each byte of the
+/// situation".
 fn mixed(situation: &[u8]) -> u32 {
     let next = |print: u32, byte: &u8| print.wrapping_mul(33).wrapping_add((*byte).into());
     situation.iter().fold(0, next)
