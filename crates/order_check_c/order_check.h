@@ -34,8 +34,8 @@ enum {
        at least the number of steps and at most the number of places written. */
     ORDER_STEPS = 3,
 
-    /* For ORDER_NR, as all that follows: the lowest thread, from 1, whose next line can, after these steps, make an
-       access that no SC run has. */
+    /* For ORDER_NR, as all that follows: the lowest thread, from 1, whose next line can, after these steps, build a graph
+       that no SC run builds. */
     ORDER_THREAD = 4,
 
     /* The kind of its access: one of the three below. */
