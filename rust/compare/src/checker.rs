@@ -1,11 +1,12 @@
 //! The whole checker, `liborder_check_c.a`, and how it is compared with the second one.
 
 mod difference;
+mod expected;
 mod inputs;
-mod library;
+mod lent;
 mod place;
 
-pub use difference::{difference, Expected, Lengths};
+pub use difference::{difference, difference_in_one_call};
+pub use expected::{Expected, Lengths};
 pub use inputs::{compare_program, lengths, random_program, Tally};
-pub use library::{check, Answer};
-pub use place::{decode, fingerprint, Written};
+pub use place::{decode, Written};

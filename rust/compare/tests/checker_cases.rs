@@ -1,7 +1,7 @@
 //! The cases of document 01 as the library answers them, in numbers.
 
-use compare::checker::{check, Answer};
 use models::collection;
+use order_check::numbers;
 
 /// The bytes of a model.
 fn model(name: &str) -> Vec<u8> {
@@ -11,9 +11,7 @@ fn model(name: &str) -> Vec<u8> {
 /// The answer with so much lent, as eight numbers, and the trace after it, which was lent with 9s.
 fn answer(bytes: &[u8], table: usize, trace: usize) -> ([u64; 8], Vec<u8>) {
     let (mut table, mut trace) = (vec![7; table], vec![9; trace]);
-    let Answer { verdict, number, count, steps, thread, kind, location, value } =
-        check(bytes, &mut table, &mut trace);
-    ([verdict, number, count, steps, thread, kind, location, value], trace)
+    (numbers(bytes, &mut table, &mut trace), trace)
 }
 
 const RB: u64 = 0;

@@ -1,10 +1,13 @@
 //! The two checkers on every model, in tables that just suffice and in others.
 
-use compare::checker::{difference, Expected, Lengths};
+use compare::checker::{difference, difference_in_one_call, Expected, Lengths};
 use models::collection;
 
 /// More places than any model needs.
 const PLACES: usize = 100_000;
+
+/// A search in a longer table takes its time.
+const LONG: usize = 500_000;
 
 #[test]
 fn on_every_model() {
@@ -15,11 +18,14 @@ fn on_every_model() {
         let search = expected.search().expect("models are accepted");
         let just = search.places.len() * expected.place_size();
         let steps = search.schedule(search.places.len()).len();
-        // The large ones are searched only once more than they must be.
-        let few = just > 500_000;
-        let tables = [just, just - 1, just / 2, 49_152, just + 1_000];
-        for table in tables.into_iter().take(if few { 1 } else { tables.len() }) {
-            for trace in [steps, steps.saturating_sub(1)].into_iter().take(if few { 1 } else { 2 }) {
+        if just > LONG {
+            let lengths = Lengths { table: just, trace: steps };
+            let difference = difference_in_one_call(&model.bytes, &expected, lengths);
+            assert_eq!(difference, None, "{} with {lengths:?}", model.name);
+            continue;
+        }
+        for table in [just, just - 1, just / 2, 49_152, just + 1_000] {
+            for trace in [steps, steps.saturating_sub(1)] {
                 let lengths = Lengths { table, trace };
                 let difference = difference(&model.bytes, &expected, lengths);
                 assert_eq!(difference, None, "{} with {lengths:?}", model.name);

@@ -1,6 +1,6 @@
 //! The Rattle reader and the second reader give the same number or the same program.
 
-use compare::difference;
+use compare::reader::difference;
 use models::collection::{self, Model};
 use models::encode;
 use random::{damage, noise, program, Numbers, Shape};

@@ -24,6 +24,9 @@ pub struct Shape {
 /// Each op as often as any other.
 const ALL: &[u8] = &[1, 2, 3, 4, 5, 6, 7, 8, 9, 10];
 
+/// Accesses that always have a step, mostly plain ones.
+const ACCESSES: &[u8] = &[5, 5, 5, 5, 6, 6, 6, 6, 7, 8];
+
 /// Plain reads and writes more often than the rest.
 const RACES: &[u8] = &[1, 2, 3, 4, 5, 5, 5, 5, 6, 6, 6, 6, 7, 7, 8, 8, 9, 10];
 
@@ -36,6 +39,11 @@ impl Shape {
     /// A few short threads, as a litmus program has them, so that a search of the program ends soon.
     pub fn small() -> Shape {
         Shape { threads: 1..=3, locations: 1..=3, values: 2..=3, lines: 0..=4, ops: ALL }
+    }
+
+    /// As the litmus programs of papers are: accesses to two locations. A third of them is not robust.
+    pub fn litmus() -> Shape {
+        Shape { threads: 2..=4, locations: 2..=2, values: 2..=4, lines: 2..=5, ops: ACCESSES }
     }
 
     /// Threads that race: mostly reads and writes of few values, of which many are equal.
@@ -56,6 +64,17 @@ impl Shape {
     /// Threads up to the limit, of very few lines.
     pub fn crowded() -> Shape {
         Shape { threads: 4..=*THREADS.end(), locations: 2..=2, values: 2..=3, lines: 1..=2, ops: RACES }
+    }
+
+    /// One of the last five, for comparing searches: mostly of two to four threads.
+    pub fn mixed(numbers: &mut Numbers) -> Shape {
+        match numbers.below(10) {
+            0..=2 => Shape::litmus(),
+            3..=5 => Shape::racing(),
+            6..=7 => Shape::looping(),
+            8 => Shape::wide(),
+            _ => Shape::crowded(),
+        }
     }
 }
 

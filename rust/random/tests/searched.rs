@@ -79,13 +79,15 @@ impl Met {
     }
 }
 
-/// What is met in 300 programs of a shape, each searched in at most 300 places.
-fn met(seed: u64, shape: &Shape) -> Met {
+/// What is met in 600 programs, each searched in at most 200 places.
+fn met(seed: u64, shape: impl Fn(&mut Numbers) -> Shape) -> Met {
     let mut numbers = Numbers::new(seed);
     let mut met = Met::default();
-    for _ in 0..300 {
-        let program = program(&mut numbers, shape);
-        met.note_search(&program, &Search::new(&program, 300));
+    for _ in 0..600 {
+        let shape = shape(&mut numbers);
+        let program = program(&mut numbers, &shape);
+        met.note_search(&program, &Search::new(&program, 200));
+        met.note_if((2..=4).contains(&program.threads.len()), "two to four threads");
     }
     met
 }
@@ -102,8 +104,24 @@ const STEPS: [&str; 6] = [
 ];
 
 #[test]
+fn mixed_programs_meet_everything() {
+    let met = met(6, Shape::mixed);
+    met.at_least(500, &["two to four threads"]);
+    met.at_least(100, &OPS);
+    met.at_least(100, &STEPS);
+    met.at_least(5, &["RB", "FU", "NR by R", "NR by W", "NR by M"]);
+}
+
+#[test]
+fn litmus_programs_are_often_not_robust() {
+    let met = met(5, |_| Shape::litmus());
+    met.at_least(100, &["op 5", "op 6", "op 7", "op 8", "a CAS that succeeds", "a CAS that fails"]);
+    met.at_least(10, &["RB", "FU", "NR by R", "NR by W", "NR by M"]);
+}
+
+#[test]
 fn racing_programs_meet_everything() {
-    let met = met(1, &Shape::racing());
+    let met = met(1, |_| Shape::racing());
     met.at_least(100, &OPS);
     met.at_least(100, &STEPS);
     met.at_least(5, &["RB", "FU", "NR by R", "NR by W", "NR by M"]);
@@ -111,7 +129,7 @@ fn racing_programs_meet_everything() {
 
 #[test]
 fn looping_programs_jump_back_often() {
-    let met = met(2, &Shape::looping());
+    let met = met(2, |_| Shape::looping());
     met.at_least(100, &OPS);
     met.at_least(500, &["a jump back", "a CAS that fails"]);
     met.at_least(5, &["RB", "FU", "NR by R"]);
@@ -119,14 +137,14 @@ fn looping_programs_jump_back_often() {
 
 #[test]
 fn wide_programs_get_every_verdict() {
-    let met = met(3, &Shape::wide());
+    let met = met(3, |_| Shape::wide());
     met.at_least(100, &STEPS);
     met.at_least(5, &["RB", "FU", "NR by R", "NR by W"]);
 }
 
 #[test]
 fn crowded_programs_get_every_verdict() {
-    let met = met(4, &Shape::crowded());
+    let met = met(4, |_| Shape::crowded());
     met.at_least(100, &["op 5", "op 6", "op 7", "op 8", "op 9", "op 10", "a CAS that fails"]);
     met.at_least(5, &["RB", "FU", "NR by R"]);
 }

@@ -34,6 +34,6 @@ fn main() -> ExitCode {
             eprintln!("{number} programs, {} s", start.elapsed().as_secs());
         }
     }
-    println!("no difference in {} s: {tally:?}", start.elapsed().as_secs());
+    println!("no difference in {} s: {tally}", start.elapsed().as_secs());
     ExitCode::SUCCESS
 }

@@ -22,7 +22,7 @@ fn main() -> ExitCode {
             eprintln!("order_read: {message}");
             ExitCode::FAILURE
         }
-        Ok(bytes) => match compare::verdict(&bytes) {
+        Ok(bytes) => match compare::reader::verdict(&bytes) {
             Ok([threads, locations, values]) => {
                 println!("accepted: threads {threads}, locations {locations}, values {values}");
                 ExitCode::SUCCESS

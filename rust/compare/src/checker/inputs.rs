@@ -1,27 +1,26 @@
 //! Which programs and lengths are compared.
 
+use std::fmt::{self, Display, Formatter};
+
 use models::disassemble;
 use random::{program, Numbers, Shape};
 use second::{Answer, Ending, Program};
 
-use super::difference::{difference, Expected, Lengths};
+use super::difference::difference;
+use super::expected::{Expected, Lengths};
 
-/// The search of a random program ends at so many places.
-const PLACES: usize = 600;
+/// The search of a random program ends at so many places: the proved one compares each with all before it. The models
+/// have up to some 30,000.
+const PLACES: usize = 200;
 
-/// A random program for the comparison: mostly of two to four threads.
+/// A random program for the comparison.
 pub fn random_program(numbers: &mut Numbers) -> Program {
-    let shape = match numbers.below(10) {
-        0..=4 => Shape::racing(),
-        5..=6 => Shape::looping(),
-        7..=8 => Shape::wide(),
-        _ => Shape::crowded(),
-    };
+    let shape = Shape::mixed(numbers);
     program(numbers, &shape)
 }
 
 /// Several lengths at which something changes for a program: places that just suffice or just don't, none, some, and
-/// more than enough; a trace that is just long enough or just too short.
+/// more than enough; where the trace is written, one that is just long enough, just too short, or any.
 pub fn lengths(numbers: &mut Numbers, expected: &Expected) -> Vec<Lengths> {
     let size = expected.place_size();
     let Some(search) = expected.search() else {
@@ -33,15 +32,18 @@ pub fn lengths(numbers: &mut Numbers, expected: &Expected) -> Vec<Lengths> {
     // Where the search was cut short, more places would find more.
     let spare = if search.ending == Ending::Full { size - 1 } else { 3 * size + 5 };
     let some = numbers.below(found + 1) * size + numbers.below(size);
-    vec![
+    let mut all = vec![
         Lengths { table: just, trace: steps },
         Lengths { table: just - 1, trace: steps },
         Lengths { table: just + numbers.below(spare + 1), trace: steps + 1 + numbers.below(9) },
-        Lengths { table: just + spare, trace: steps.saturating_sub(1) },
-        Lengths { table: just, trace: numbers.below(steps + 1) },
         Lengths { table: some.min(just), trace: 0 },
         Lengths { table: numbers.below(size), trace: numbers.below(5) },
-    ]
+    ];
+    if let Ending::Witness(_) = search.ending {
+        all.push(Lengths { table: just + spare, trace: steps.saturating_sub(1) });
+        all.push(Lengths { table: just, trace: numbers.below(steps + 1) });
+    }
+    all
 }
 
 /// How often each answer was compared.
@@ -59,8 +61,16 @@ pub struct Tally {
     pub short_trace: usize,
     /// 1 to 9
     pub refused: usize,
-    /// Places that were decoded and compared in one call each.
+    /// Places compared, once for each time that they were due.
     pub places: usize,
+}
+
+impl Display for Tally {
+    fn fmt(&self, to: &mut Formatter) -> fmt::Result {
+        let Tally { programs, robust, not_robust, full, short_trace, refused, places } = self;
+        write!(to, "{programs} programs, {places} places; answers: ")?;
+        write!(to, "RB {robust}, NR {not_robust}, FU {full}, 10 {short_trace}, 1 to 9 {refused}")
+    }
 }
 
 impl Tally {

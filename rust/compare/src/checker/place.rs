@@ -11,13 +11,11 @@ pub struct Written {
     pub by: usize,
     /// The fingerprint.
     pub fingerprint: u32,
+    /// The fingerprint that belongs to the bytes of the situation.
+    pub due: u32,
     /// The situation.
     pub situation: Situation,
 }
-
-/// The length of what stands before the situation: "the place it was reached from (4 bytes [..]), the thread (1 [..]),
-/// a fingerprint (4)".
-const HEAD: usize = 9;
 
 /// Takes a place apart: the order of its bytes, as docs/LAYOUT.md has it, is in this function alone. Nothing where
 /// bytes are missing or left over.
@@ -26,36 +24,48 @@ pub fn decode(place: &[u8], threads: usize, locations: usize) -> Option<Written>
     let from = u32::from_le_bytes(bytes.take()?) as usize;
     let by = bytes.byte()?.into();
     let fingerprint = u32::from_le_bytes(bytes.take()?);
-    let thread = |bytes: &mut Bytes| {
-        Some(ThreadPart {
-            line: bytes.byte()?,
-            registers: bytes.take()?,
-            seen: bytes.byte()?.into(),
-            readable: bytes.sets(locations)?,
-            writable: bytes.sets(locations)?,
-        })
+    let due = mixed(bytes.0);
+
+    let lines = bytes.all(threads, Bytes::byte)?;
+    let registers = bytes.all(threads, Bytes::take)?;
+    let values = bytes.all(locations, Bytes::byte)?;
+
+    let known_to_thread = bytes.all(threads, Bytes::byte)?;
+    let known_to_newest = bytes.all(locations, Bytes::byte)?;
+    let known_to_access = bytes.all(locations, Bytes::byte)?;
+
+    let row = |bytes: &mut Bytes| bytes.sets(locations);
+    let readable_by_thread = bytes.all(threads, row)?;
+    let readable_by_newest = bytes.all(locations, row)?;
+    let writable_by_thread = bytes.all(threads, row)?;
+    let writable_by_newest = bytes.all(locations, row)?;
+
+    let thread = |t: usize| ThreadPart {
+        line: lines[t],
+        registers: registers[t],
+        seen: known_to_thread[t].into(),
+        readable: readable_by_thread[t],
+        writable: writable_by_thread[t],
     };
-    let location = |bytes: &mut Bytes| {
-        Some(LocationPart {
-            value: bytes.byte()?,
-            seen_by_newest: bytes.byte()?.into(),
-            seen_by_any: bytes.byte()?.into(),
-            readable: bytes.sets(locations)?,
-            writable: bytes.sets(locations)?,
-        })
+    let location = |x: usize| LocationPart {
+        value: values[x],
+        seen_by_newest: known_to_newest[x].into(),
+        seen_by_any: known_to_access[x].into(),
+        readable: readable_by_newest[x],
+        writable: writable_by_newest[x],
     };
     let situation = Situation {
-        threads: (0..threads).map(|_| thread(&mut bytes)).collect::<Option<_>>()?,
-        locations: (0..locations).map(|_| location(&mut bytes)).collect::<Option<_>>()?,
+        threads: (0..threads).map(thread).collect(),
+        locations: (0..locations).map(location).collect(),
     };
-    bytes.0.is_empty().then_some(Written { from, by, fingerprint, situation })
+    bytes.0.is_empty().then_some(Written { from, by, fingerprint, due, situation })
 }
 
-/// The fingerprint that belongs to the situation of a place: it "starts at 0 and becomes 33 times itself plus the byte,
-/// modulo 2^32, for each byte of the situation".
-pub fn fingerprint(place: &[u8]) -> u32 {
+/// The fingerprint "starts at 0 and becomes 33 times itself plus the byte, modulo 2^32, for each byte of the
+/// situation".
+fn mixed(situation: &[u8]) -> u32 {
     let next = |print: u32, byte: &u8| print.wrapping_mul(33).wrapping_add((*byte).into());
-    place[HEAD..].iter().fold(0, next)
+    situation.iter().fold(0, next)
 }
 
 /// The bytes that are still to be taken.
@@ -79,5 +89,10 @@ impl Bytes<'_> {
             *set = u16::from_le_bytes(self.take()?);
         }
         Some(sets)
+    }
+
+    /// So many things, one after the other.
+    fn all<T>(&mut self, count: usize, take: impl Fn(&mut Self) -> Option<T>) -> Option<Vec<T>> {
+        (0..count).map(|_| take(self)).collect()
     }
 }

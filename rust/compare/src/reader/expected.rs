@@ -2,7 +2,7 @@
 
 use second::{Line, Operand, Program};
 
-use crate::library;
+use super::library;
 
 /// The lengths of a PR, a TH and an IN record in document 01.
 const PR: usize = 5;

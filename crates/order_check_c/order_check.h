@@ -1,0 +1,117 @@
+/*
+ * The order checker for C: does a small concurrent program behave on a release/acquire machine exactly as on a
+ * sequentially consistent (SC) one?
+ *
+ * `rt staticlib order_check_c` proves it and makes target/staticlib/liborder_check_c.a, for x86-64 Linux:
+ *
+ *     cc caller.c target/staticlib/liborder_check_c.a
+ *
+ * README.md lists the checks by their numbers, and docs/LAYOUT.md has the bytes of a place.
+ */
+#ifndef ORDER_CHECK_H
+#define ORDER_CHECK_H
+
+#include <stddef.h>
+#include <stdint.h>
+
+#ifdef __cplusplus
+extern "C" {
+#endif
+
+/* The numbers of an answer, by their index. All of them are written by every call; what a verdict does not use is 0. */
+enum {
+    /* The verdict: one of the four below. */
+    ORDER_VERDICT = 0,
+
+    /* The number of the failed check: 1 to 9 where the bytes are no program, ORDER_TRACE_SHORT, or ORDER_TABLE_FULL
+       with ORDER_FU; 0 for ORDER_RB and ORDER_NR. */
+    ORDER_NUMBER = 1,
+
+    /* How many places of the table are written, for ORDER_RB, ORDER_NR and ORDER_FU. */
+    ORDER_COUNT = 2,
+
+    /* For ORDER_NR how many steps the run in the trace has; for ORDER_TRACE_SHORT a length of the trace that suffices,
+       at least the number of steps and at most the number of places written. */
+    ORDER_STEPS = 3,
+
+    /* For ORDER_NR, as all that follows: the lowest thread, from 1, whose next line can, after these steps, build a graph
+       that no SC run builds. */
+    ORDER_THREAD = 4,
+
+    /* The kind of its access: one of the three below. */
+    ORDER_KIND = 5,
+
+    /* The location of its access, from 0. */
+    ORDER_LOCATION = 6,
+
+    /* The smallest stale value that it may use: that of an older write that it reads, or comes directly after. */
+    ORDER_VALUE = 7,
+
+    /* How many numbers an answer has. */
+    ORDER_FIELDS = 8
+};
+
+/* The verdicts. */
+enum {
+    /* Robust: every release/acquire run of the program, of any length, ends in thread states and an execution graph
+       that some SC run reaches too. */
+    ORDER_RB = 0,
+
+    /* Not robust: the trace has the steps of an SC run, and after it the named access, by a write that is no longer the
+       newest, builds a graph that no SC run builds. */
+    ORDER_NR = 1,
+
+    /* Undecided: the places did not suffice. A longer table may decide. */
+    ORDER_FU = 2,
+
+    /* Refused: ORDER_NUMBER says why. */
+    ORDER_REFUSED = 3
+};
+
+/* The two checks after the search. */
+enum {
+    /* With ORDER_REFUSED: the program is not robust, but the trace is too short for the steps. Call again with a trace
+       of the length in ORDER_STEPS. */
+    ORDER_TRACE_SHORT = 10,
+
+    /* With ORDER_FU. */
+    ORDER_TABLE_FULL = 11
+};
+
+/* The kinds of an access. */
+enum {
+    ORDER_READ = 1,   /* R; a CAS that fails is one */
+    ORDER_WRITE = 2,  /* W */
+    ORDER_UPDATE = 3  /* M, a read-modify-write */
+};
+
+/*
+ * Checks a program in lent memory. Any bytes and any lengths are answered.
+ *
+ * program, program_len: the program bytes. They are read only.
+ *
+ * table, table_len: where the search writes a place for each situation that it meets. There are table_len divided by
+ *     the size of a place of them, at most 1,000,000,000; for T threads and L locations a place has
+ *     9 + T * (6 + 4 * L) + L * (3 + 4 * L) bytes. Bytes past the places written stay as they are, and so do all where
+ *     the bytes are no program.
+ *
+ * trace, trace_len: for ORDER_NR its first ORDER_STEPS bytes get the threads, from 1, whose turns are the steps of the
+ *     run; its other bytes stay as they are, and for every other verdict all of them do.
+ *
+ * answer: gets ORDER_FIELDS numbers.
+ *
+ * All memory is the caller's. The function allocates nothing, keeps no pointer and no other state after it returns, and
+ * may run on several threads at once, each with memory of its own. What table, trace and answer held before changes no
+ * answer.
+ *
+ * No pointer may be null, also where its length is 0, and answer is aligned as uint64_t is. The four do not overlap,
+ * and nothing else writes to them, or reads table, trace or answer, before the call returns.
+ */
+void order_check(const uint8_t *program, size_t program_len, uint8_t *table, size_t table_len, uint8_t *trace,
+                 size_t trace_len, uint64_t answer[ORDER_FIELDS]);
+
+#ifdef __cplusplus
+}
+#endif
+
+#endif

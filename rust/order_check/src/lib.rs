@@ -1,0 +1,71 @@
+//! The proved order checker, safe to call: does a small concurrent program behave on a release/acquire machine exactly
+//! as on a sequentially consistent (SC) one?
+//!
+//! The caller lends all the memory: a table, in which the search writes a place for each situation that it meets, and a
+//! trace, which gets the steps of a run that shows a program not to be robust. No memory is allocated, and nothing is
+//! kept after the call. What the lent bytes held before changes no answer.
+//!
+//! ```
+//! use order_check::{check, Kind, Report};
+//!
+//! // Store buffering: x := 1; read y ‖ y := 1; read x.
+//! let program = b"PR\x02\x02\x02TH\x02IN\x05\x00\x00\x01\x00IN\x06\x00\x01\x00\x00\
+//!     TH\x02IN\x05\x00\x01\x01\x00IN\x06\x00\x00\x00\x00";
+//! let (mut table, mut trace) = (vec![0; 49_152], vec![0; 4_096]);
+//! let report = check(program, &mut table, &mut trace);
+//!
+//! // After thread 1 took two steps and thread 2 one, thread 2 may read the 0 that x started with.
+//! let stale = Report::NotRobust { count: 7, steps: 3, thread: 2, kind: Kind::Read, location: 0, value: 0 };
+//! assert_eq!(report, stale);
+//! assert_eq!(trace[..3], [1, 1, 2]);
+//! ```
+
+mod report;
+
+pub use report::{Kind, Report};
+
+/// Checks program bytes in the lent table.
+///
+/// Any bytes and any lengths will do, 0 too: what is no program is [refused](Report::Refused), and memory that does not
+/// suffice is [reported](Report::Full) [as such](Report::Short). The table has as many places as fit into it whole, at
+/// most 1,000,000,000; for a program of T threads and L locations a place has 9 + T × (6 + 4L) + L × (3 + 4L) bytes.
+///
+/// # Panics
+///
+/// Never with the proved library; with another one, where it answers what the proved one cannot.
+pub fn check(program: &[u8], table: &mut [u8], trace: &mut [u8]) -> Report {
+    Report::of(numbers(program, table, trace))
+}
+
+/// The same as eight numbers, for those who compare them with what the C header `order_check.h` says: verdict, number,
+/// count, steps, thread, kind, location, value.
+pub fn numbers(program: &[u8], table: &mut [u8], trace: &mut [u8]) -> [u64; 8] {
+    // The library writes every field: this number is none of its answers.
+    let mut answer = [u64::MAX; 8];
+    // SAFETY: the library reads the program, reads and writes within the lengths of table and trace, writes the eight
+    // numbers of the answer, and keeps nothing. No two of the four borrows overlap.
+    unsafe {
+        order_check(
+            program.as_ptr(),
+            program.len(),
+            table.as_mut_ptr(),
+            table.len(),
+            trace.as_mut_ptr(),
+            trace.len(),
+            &mut answer,
+        );
+    }
+    answer
+}
+
+extern "C" {
+    fn order_check(
+        program: *const u8,
+        program_len: usize,
+        table: *mut u8,
+        table_len: usize,
+        trace: *mut u8,
+        trace_len: usize,
+        answer: *mut [u64; 8],
+    );
+}

@@ -1,0 +1,88 @@
+/* A program in C that calls the checker through its header, and ends with 0 where each answer is the expected one. */
+#include <stdio.h>
+#include <string.h>
+
+#include "order_check.h"
+
+/* x := 1; read y || y := 1; read x, with two values. */
+static const uint8_t sb[] = {
+    'P', 'R', 2, 2, 2,
+    'T', 'H', 2,
+    'I', 'N', 5, 0, 0, 1, 0,
+    'I', 'N', 6, 0, 1, 0, 0,
+    'T', 'H', 2,
+    'I', 'N', 5, 0, 1, 1, 0,
+    'I', 'N', 6, 0, 0, 0, 0,
+};
+
+/* One thread without lines, and one location. */
+static const uint8_t empty_thread[] = {'P', 'R', 1, 1, 2, 'T', 'H', 0};
+
+/* Seven places of two threads and two locations have 413 bytes. */
+static uint8_t table[413];
+static uint8_t trace[4];
+
+static int failures = 0;
+
+/* Checks a program with so much lent, and compares the answer. */
+static void expect(const char *name, const uint8_t *program, size_t length, size_t table_length, size_t trace_length,
+                   const uint64_t expected[ORDER_FIELDS])
+{
+    uint64_t answer[ORDER_FIELDS];
+    memset(answer, 0xff, sizeof answer);
+    memset(trace, 9, sizeof trace);
+    order_check(program, length, table, table_length, trace, trace_length, answer);
+    for (int field = 0; field < ORDER_FIELDS; field++) {
+        if (answer[field] != expected[field]) {
+            failures++;
+            printf("%s: field %d is %llu, expected %llu\n", name, field, (unsigned long long)answer[field],
+                   (unsigned long long)expected[field]);
+        }
+    }
+}
+
+/* Compares the whole trace after a call. */
+static void expect_trace(const char *name, const uint8_t expected[sizeof trace])
+{
+    if (memcmp(trace, expected, sizeof trace) != 0) {
+        failures++;
+        printf("%s: the trace is %d %d %d %d\n", name, trace[0], trace[1], trace[2], trace[3]);
+    }
+}
+
+int main(void)
+{
+    const uint64_t not_robust[] = {ORDER_NR, 0, 7, 3, 2, ORDER_READ, 0, 0};
+    const uint64_t full[] = {ORDER_FU, ORDER_TABLE_FULL, 6, 0, 0, 0, 0, 0};
+    const uint64_t robust[] = {ORDER_RB, 0, 1, 0, 0, 0, 0, 0};
+    const uint64_t no_place[] = {ORDER_FU, ORDER_TABLE_FULL, 0, 0, 0, 0, 0, 0};
+    const uint64_t no_program[] = {ORDER_REFUSED, 1, 0, 0, 0, 0, 0, 0};
+    const uint8_t steps[] = {1, 1, 2, 9};
+    const uint8_t unchanged[] = {9, 9, 9, 9};
+
+    expect("SB", sb, sizeof sb, 413, sizeof trace, not_robust);
+    expect_trace("SB", steps);
+    expect("SB in a shorter table", sb, sizeof sb, 412, sizeof trace, full);
+    expect_trace("SB in a shorter table", unchanged);
+    expect("an empty thread", empty_thread, sizeof empty_thread, 26, 0, robust);
+    expect("an empty thread and nothing lent", empty_thread, sizeof empty_thread, 0, 0, no_place);
+    expect("no bytes", sb, 0, 0, 0, no_program);
+
+    /* A trace that is too short, then one of the length that is wanted. */
+    uint64_t answer[ORDER_FIELDS];
+    order_check(sb, sizeof sb, table, sizeof table, trace, 2, answer);
+    if (answer[ORDER_VERDICT] != ORDER_REFUSED || answer[ORDER_NUMBER] != ORDER_TRACE_SHORT
+        || answer[ORDER_STEPS] < 3 || answer[ORDER_STEPS] > 7) {
+        failures++;
+        printf("a short trace: verdict %d, number %d, wanted %d\n", (int)answer[ORDER_VERDICT],
+               (int)answer[ORDER_NUMBER], (int)answer[ORDER_STEPS]);
+    } else {
+        uint8_t wanted[7];
+        order_check(sb, sizeof sb, table, sizeof table, wanted, (size_t)answer[ORDER_STEPS], answer);
+        if (answer[ORDER_VERDICT] != ORDER_NR || memcmp(wanted, steps, 3) != 0) {
+            failures++;
+            printf("the wanted length: verdict %d\n", (int)answer[ORDER_VERDICT]);
+        }
+    }
+    return failures == 0 ? 0 : 1;
+}
