@@ -79,7 +79,7 @@ steps-are-short (suc steps) (t ∷ trace) small =
 -- A buffer with room for the longest line, and for a step for each byte of the trace, has room for the text.
 pub text-is-short : (report : Report) (trace : List ℕ) → Typed report → ((j : ℕ) → getD trace j 0 < 2 ^ 8)
     → length (textOf report trace) ≤ longestLine + longestStep * length trace
-unfolding textOf
+unfolding textOf checkNumber
 text-is-short (Robust count) trace h small =
     omega (arith, length-of-two markRB (decimal count), word-length count h)
 text-is-short (Full count) trace h small =

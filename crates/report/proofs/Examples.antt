@@ -53,5 +53,5 @@ passes [] = true
 passes (e ∷ es) = spells (e .text) (textOf (e .report) (e .trace)) && passes es
 
 pub every-example : passes examples ≡ true
-unfolding textOf line stepLines letter decimal decimalIn
+unfolding textOf checkNumber line stepLines letter decimal decimalIn
 every-example = refl

@@ -6,6 +6,7 @@ use lib.ListN.{length, take, drop}
 use lib.Dec.{ltb}
 use Rattle.witness.specs.declared.Kind.{Kind}
 use Rattle.witness.specs.declared.Kind.the-variants.{Read, Write, Update}
+use Rattle.report.specs.Number.{checkNumber}
 use Rattle.report.specs.declared.Report.{Report}
 use Rattle.report.specs.declared.Report.the-variants.{Robust, NotRobust, Full, Short, Refused}
 
@@ -64,12 +65,12 @@ stepLines (suc steps) [] = []
 stepLines (suc steps) (thread ∷ trace) = line (markST ∷ decimal thread ∷ []) ++ stepLines steps trace
 
 -- "RB and the count; FU and the count; NO and the number; or NR, count, number of steps, thread, kind .., location and
--- stale value, then one ST line with the thread for each step." Where the trace is too short, the number is 10.
+-- stale value, then one ST line with the thread for each step."
 unfoldable pub textOf : Report → (trace : List ℕ) → List ℕ
 textOf (Robust count) trace = line (markRB ∷ decimal count ∷ [])
 textOf (Full count) trace = line (markFU ∷ decimal count ∷ [])
-textOf (Refused number) trace = line (markNO ∷ decimal number ∷ [])
-textOf (Short wanted) trace = line (markNO ∷ decimal 10 ∷ [])
+textOf (Refused number) trace = line (markNO ∷ decimal (checkNumber (Refused number)) ∷ [])
+textOf (Short wanted) trace = line (markNO ∷ decimal (checkNumber (Short wanted)) ∷ [])
 textOf (NotRobust count steps thread kind location value) trace =
     line
     (markNR

@@ -59,7 +59,7 @@ same-length : tie.Need-same-length
 same-length c = search needs
 
 returns : tie.Need-returns
-unfolding textOf
+unfolding textOf checkNumber
 returns c =
     let put = c .before .before in
     let told = put .before .before .before .before in
@@ -70,7 +70,7 @@ same-length-2 : tie.Need-same-length-2
 same-length-2 c = search needs
 
 returns-2 : tie.Need-returns-2
-unfolding textOf
+unfolding textOf checkNumber
 returns-2 c =
     let second = c .before .before in
     let first = second .before .before .before .before in
@@ -83,7 +83,7 @@ same-length-3 : tie.Need-same-length-3
 same-length-3 c = search needs
 
 returns-3 : tie.Need-returns-3
-unfolding textOf
+unfolding textOf checkNumber
 returns-3 c =
     let put = c .before .before in
     let told = put .before .before .before .before in
@@ -94,7 +94,7 @@ same-length-4 : tie.Need-same-length-4
 same-length-4 c = search needs
 
 returns-4 : tie.Need-returns-4
-unfolding textOf
+unfolding textOf checkNumber
 returns-4 c =
     let put = c .before .before in
     let told = put .before .before .before in
@@ -105,7 +105,7 @@ same-length-5 : tie.Need-same-length-5
 same-length-5 c = search needs
 
 returns-5 : tie.Need-returns-5
-unfolding textOf
+unfolding textOf checkNumber
 returns-5 c =
     let put = c .before .before in
     let told = put .before .before .before .before in
