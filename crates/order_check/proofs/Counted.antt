@@ -10,8 +10,8 @@ use Rattle.io.specs.Counts.{Counts}
 use Rattle.report.specs.Text.{textOf}
 use Rattle.order_check.specs.Printed.{Printed}
 
-pub text-counted : {bytes : List ℕ} {tableLength traceLength : ℕ} {trace buffer after : List ℕ} {count : ℕ}
-    → Printed bytes tableLength traceLength trace buffer after count → Counts count after
+pub text-counted : {bytes : List ℕ} {tableLength : ℕ} {lent trace buffer after : List ℕ} {count : ℕ}
+    → Printed bytes tableLength lent trace buffer after count → Counts count after
 text-counted {trace = trace} {buffer} {after} {count} printed = (within, sym (length-take-le count after within))
   where
     text : List ℕ
@@ -30,7 +30,7 @@ text-counted {trace = trace} {buffer} {after} {count} printed = (within, sym (le
     within : count ≤ length after
     within = omega (arith, printed .counted, long, min-le-right (length text) (length buffer))
 
-pub both : {bytes : List ℕ} {tableLength traceLength : ℕ} {trace buffer after : List ℕ} {count : ℕ}
-    → Printed bytes tableLength traceLength trace buffer after count
-    → Printed bytes tableLength traceLength trace buffer after count × Counts count after
+pub both : {bytes : List ℕ} {tableLength : ℕ} {lent trace buffer after : List ℕ} {count : ℕ}
+    → Printed bytes tableLength lent trace buffer after count
+    → Printed bytes tableLength lent trace buffer after count × Counts count after
 both printed = (printed, text-counted printed)

@@ -8,9 +8,9 @@ use Rattle.report.specs.Text.{textOf, laid}
 use Rattle.checker.specs.Checked.{Checked}
 
 -- The text of a report that keeps all that the checker promises of it, laid in a lent buffer.
-pub record Printed (bytes : List ℕ) (tableLength traceLength : ℕ) (traceAtExit buffer bufferAtExit : List ℕ) (count : ℕ)
+pub record Printed (bytes : List ℕ) (tableLength : ℕ) (trace traceAtExit buffer bufferAtExit : List ℕ) (count : ℕ)
     : Type 0 where
   pub report : Report
-  pub checked : Checked bytes tableLength traceLength traceAtExit report
+  pub checked : Checked bytes tableLength trace traceAtExit report
   pub text : bufferAtExit ≡ laid (textOf report traceAtExit) buffer
   pub counted : count ≡ min (length (textOf report traceAtExit)) (length buffer)

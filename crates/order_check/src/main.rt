@@ -1,5 +1,6 @@
 // The printing program: reads a program's bytes from standard input and writes the report's text to standard output.
 use checker::check;
+use libc::STDERR_FILENO;
 use libc::STDIN_FILENO;
 use libc::STDOUT_FILENO;
 use report::text;
@@ -8,11 +9,11 @@ ghost use lib.ListN.{length};
 ghost use Rattle.io.specs.Counts.{Counts};
 ghost use Rattle.order_check.specs.Printed.{Printed};
 
-// What is kept of standard input: more than the longest program, of 3,613 bytes, so that a longer input is judged by its
-// front (the theorem longer-judged-by-front).
+// What is kept of standard input, the length of `io::buffer`: more than the longest program, of 3,613 bytes, so that a
+// longer input is judged by its front (the theorem longer-judged-by-front).
 const INPUT: usize = 4096;
 
-// "a table of 49,152 bytes and a trace of 4,096"
+// "a table of 49,152 bytes and a trace of 4,096": the trace, too, is an `io::buffer`.
 const TABLE: usize = 49152;
 
 const TRACE: usize = 4096;
@@ -32,24 +33,33 @@ fn text_buffer() -> [u8; TEXT]
     [0; TEXT]
 }
 
-// Reads on and keeps nothing; says whether there was something.
-fn skip_some() -> bool {
+// Reads on and keeps nothing: what `read` answered.
+fn skip_some() -> isize {
     let mut rest = io::buffer();
-    0 < libc::read(STDIN_FILENO, &mut rest)
+    libc::read(STDIN_FILENO, &mut rest)
 }
 
-// Reads to the end of standard input. Nothing says that it ends, so the turns are counted down from a number that no run
-// uses up.
-fn skip_rest() {
+// Reads to the end of standard input, and says whether it was reached: not where a read fails, and not where more comes
+// though the input seemed to have ended before the buffer was full. Nothing says that an input ends, so the turns are
+// counted down from a number that no run uses up.
+fn skip_rest(is_full: bool) -> bool {
     let mut turns = u64::MAX;
-    while turns > 0 && skip_some() {
+    while turns > 0 {
+        let got = skip_some();
+        if got == 0 {
+            return true;
+        }
+        if got < 0 || !is_full {
+            return false;
+        }
         turns = turns - 1;
     }
+    false
 }
 
 // Checks a program and lays the report's text in the buffer; how many bytes of it are text.
 fn print(program: &[u8], places: &mut [u8], trace: &mut [u8], buffer: &mut [u8]) -> usize
-    ensures printed { λ r. ⌜ Printed (now (program .entry)) (length (now (places .entry))) (length (now (trace .entry)))
+    ensures printed { λ r. ⌜ Printed (now (program .entry)) (length (now (places .entry))) (now (trace .entry))
         (now (trace .exit)) (now (buffer .entry)) (now (buffer .exit)) r ⌝ }
     ensures counts { λ r. ⌜ Counts r (now (buffer .exit)) ⌝ }
 {
@@ -60,10 +70,21 @@ fn print(program: &[u8], places: &mut [u8], trace: &mut [u8], buffer: &mut [u8])
 fn main() {
     let mut input = io::buffer();
     let n = io::read_full(STDIN_FILENO, &mut input);
-    skip_rest();
+    if !skip_rest(n == INPUT) {
+        io::write_all(
+            STDERR_FILENO,
+            b"order_check: standard input can't be read to its end\n",
+        );
+        return;
+    }
     let mut places = table();
     let mut trace = io::buffer();
     let mut lines = text_buffer();
     let length = print(&input[..n], &mut places, &mut trace, &mut lines);
-    io::write_all(STDOUT_FILENO, &lines[..length]);
+    if !io::write_all(STDOUT_FILENO, &lines[..length]) {
+        io::write_all(
+            STDERR_FILENO,
+            b"order_check: standard output can't be written\n",
+        );
+    }
 }

@@ -4,6 +4,7 @@ use mathlib.Core.Path.{_≡_}
 use mathlib.Core.List.{List, [], _∷_}
 use Rattle.witness.specs.declared.Kind.{Kind}
 use Rattle.witness.specs.declared.Kind.the-variants.{Read, Write, Update}
+use Rattle.report.specs.Number.{checkNumber}
 use Rattle.report.specs.declared.Report.{Report}
 use Rattle.report.specs.declared.Report.the-variants.{Robust, NotRobust, Full, Short, Refused}
 use Rattle.checker.specs.Checked.{Checked}
@@ -23,12 +24,12 @@ eight verdict number count steps thread kind location value =
 unfoldable pub numbersOf : Report → List ℕ
 numbersOf (Robust count) = eight 0 0 count 0 0 0 0 0
 numbersOf (NotRobust count steps thread kind location value) = eight 1 0 count steps thread (kindNumber kind) location value
-numbersOf (Full count) = eight 2 11 count 0 0 0 0 0
-numbersOf (Short wanted) = eight 3 10 0 wanted 0 0 0 0
-numbersOf (Refused number) = eight 3 number 0 0 0 0 0 0
+numbersOf (Full count) = eight 2 (checkNumber (Full count)) count 0 0 0 0 0
+numbersOf (Short wanted) = eight 3 (checkNumber (Short wanted)) 0 wanted 0 0 0 0
+numbersOf (Refused number) = eight 3 (checkNumber (Refused number)) 0 0 0 0 0 0
 
 -- The numbers of a report that keeps all that the checker promises of it.
-pub record Told (bytes : List ℕ) (tableLength traceLength : ℕ) (traceAtExit numbers : List ℕ) : Type 0 where
+pub record Told (bytes : List ℕ) (tableLength : ℕ) (trace traceAtExit numbers : List ℕ) : Type 0 where
   pub report : Report
   pub told : numbers ≡ numbersOf report
-  pub checked : Checked bytes tableLength traceLength traceAtExit report
+  pub checked : Checked bytes tableLength trace traceAtExit report

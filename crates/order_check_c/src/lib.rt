@@ -5,7 +5,7 @@ use witness::Kind;
 ghost use mathlib.Core.Path.{_≡_};
 ghost use lib.ListN.{length};
 ghost use Rattle.program_bytes.specs.Format.{readProgram};
-ghost use Rattle.answers.specs.Answer.{tableAfter, traceAfter};
+ghost use Rattle.answers.specs.Answer.{tableAfter, PlacesAt};
 ghost use Rattle.order_check_c.specs.Answer.{kindNumber, eight, numbersOf, Told};
 
 fn kind_number(kind: Kind) -> u64
@@ -57,11 +57,11 @@ pub extern "C" fn order_check(
     trace: &mut [u8],
     answer: &mut [u64; 8],
 )
-    ensures answer { λ r. ⌜ Told (now (program .entry)) (length (now (table .entry))) (length (now (trace .entry)))
+    ensures answer { λ r. ⌜ Told (now (program .entry)) (length (now (table .entry))) (now (trace .entry))
         (now (trace .exit)) (now (answer .exit)) ⌝ }
     ensures table { λ r. ⌜ now (table .exit) ≡ tableAfter (readProgram (now (program .entry))) (now (table .entry)) ⌝ }
-    ensures trace { λ r. ⌜ now (trace .exit)
-        ≡ traceAfter (readProgram (now (program .entry))) (length (now (table .entry))) (now (trace .entry)) ⌝ }
+    ensures places { λ r.
+        ⌜ PlacesAt (readProgram (now (program .entry))) (now (table .entry)) (now (table .exit)) ⌝ }
 {
     let report = check(program, table, trace);
     *answer = numbers_of(report);

@@ -6,6 +6,7 @@ use mathlib.Core.List.{List, [], _∷_, _++_}
 use lib.ListN.{length, getD, length-append}
 use Rattle.report.specs.declared.Report.{Report}
 use Rattle.report.specs.declared.Report.the-variants.{Robust, NotRobust, Full, Short, Refused}
+use Rattle.report.specs.Number.{checkNumber}
 use Rattle.report.specs.Text.{space, newline, decimal, line, letter, stepLines, textOf}
 use Rattle.report.specs.Text.{markRB, markFU, markNO, markNR, markST}
 use Rattle.report.proofs.Decimals.{decimal-length}

@@ -9,6 +9,7 @@ use lib.Dec.{eqb}
 use Rattle.witness.specs.declared.Kind.the-variants.{Read, Write, Update}
 use Rattle.report.specs.declared.Report.{Report}
 use Rattle.report.specs.declared.Report.the-variants.{Robust, NotRobust, Full, Short, Refused}
+use Rattle.report.specs.Number.{checkNumber}
 use Rattle.report.specs.Text.{decimalIn, decimal, line, letter, stepLines, textOf}
 
 -- A report, the trace that it comes with, and what is printed.

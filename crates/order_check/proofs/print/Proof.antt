@@ -33,7 +33,7 @@ returns c = let check = c .before .before .before .before .before .before .befor
     let text = c .before .before .text .ensures in
     both (record {
       report = check .result;
-      checked = record { answered = check .ensures .0; robust = check .ensures .1 .1 .1 .0; not-robust = check .ensures .1 .1 .1 .1 };
+      checked = record { answered = check .ensures .0; traced = check .ensures .1 .1 .1 .0; robust = check .ensures .1 .1 .1 .1 .0; not-robust = check .ensures .1 .1 .1 .1 .1 };
       text = text .1;
       counted = text .0;
     })

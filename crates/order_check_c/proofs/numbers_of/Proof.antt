@@ -1,3 +1,4 @@
+use Rattle.report.specs.Number.{checkNumber}
 use Rattle.order_check_c.proofs.Numbers.{not-robust-numbers}
 use Rattle.order_check_c.specs.Answer.{numbersOf}
 use borrow.Author.Needs.{needs}
@@ -41,7 +42,7 @@ cast-t22 c = search needs
 
 -- src/lib.rt:22:1
 returns : tie.Need-returns
-unfolding numbersOf
+unfolding numbersOf checkNumber
 returns c = rw (c .before .report .given .1)
 
 -- src/lib.rt:22:1
@@ -50,17 +51,17 @@ returns-2 c = not-robust-numbers (c .before .before .report2 .given .1) (c .kind
 
 -- src/lib.rt:22:1
 returns-3 : tie.Need-returns-3
-unfolding numbersOf
+unfolding numbersOf checkNumber
 returns-3 c = rw (c .before .report3 .given .1)
 
 -- src/lib.rt:22:1
 returns-4 : tie.Need-returns-4
-unfolding numbersOf
+unfolding numbersOf checkNumber
 returns-4 c = rw (c .before .report4 .given .1)
 
 -- src/lib.rt:22:1
 returns-5 : tie.Need-returns-5
-unfolding numbersOf
+unfolding numbersOf checkNumber
 returns-5 c = rw (c .before .report5 .given .1)
 
 pub numbers-of-spec : {M : Type 1} → statement M

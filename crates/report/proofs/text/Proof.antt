@@ -1,4 +1,5 @@
 -- `report::text` meets its contract: each way prints the lines of its report from the start of the buffer.
+use Rattle.report.specs.Number.{checkNumber}
 use Rattle.report.specs.Text.{textOf}
 use Rattle.report.proofs.Puts.{put-then}
 use Rattle.report.proofs.Printed.{printed}
