@@ -1,0 +1,60 @@
+//! `order_large TABLE [FILE]`: checks program bytes in a table of so many bytes, and prints the lines of the printing
+//! program. The trace is as long as any can be.
+
+use std::fs;
+use std::io::{self, Read};
+use std::process::ExitCode;
+
+use order_check::{check, Kind, Report};
+
+const USAGE: &str = "usage: order_large TABLE [FILE]   (TABLE in bytes; without FILE the program is read from standard input)";
+
+/// No place is shorter, and a run to a place has fewer steps than there are places.
+const SMALLEST_PLACE: usize = 26;
+
+fn main() -> ExitCode {
+    let arguments: Vec<String> = std::env::args().skip(1).collect();
+    let (Some(Ok(length)), true) = (arguments.first().map(|table| table.parse::<usize>()), arguments.len() <= 2) else {
+        eprintln!("{USAGE}");
+        return ExitCode::from(2);
+    };
+    let program = match arguments.get(1) {
+        Some(file) => fs::read(file).map_err(|error| format!("{file}: {error}")),
+        None => standard_input(),
+    };
+    match program {
+        Ok(program) => {
+            let mut trace = vec![0; length / SMALLEST_PLACE];
+            print(check(&program, &mut vec![0; length], &mut trace), &trace);
+            ExitCode::SUCCESS
+        }
+        Err(message) => {
+            eprintln!("order_large: {message}");
+            ExitCode::FAILURE
+        }
+    }
+}
+
+fn standard_input() -> Result<Vec<u8>, String> {
+    let mut bytes = Vec::new();
+    io::stdin().read_to_end(&mut bytes).map_err(|error| format!("standard input: {error}"))?;
+    Ok(bytes)
+}
+
+fn print(report: Report, trace: &[u8]) {
+    match report {
+        Report::Robust { count } => println!("RB {count}"),
+        Report::Full { count } => println!("FU {count}"),
+        Report::Short { .. } => println!("NO 10"),
+        Report::Refused { number } => println!("NO {number}"),
+        Report::NotRobust { count, steps, thread, kind, location, value } => {
+            let letter = match kind {
+                Kind::Read => 'R',
+                Kind::Write => 'W',
+                Kind::Update => 'M',
+            };
+            println!("NR {count} {steps} {thread} {letter} {location} {value}");
+            trace.iter().take(steps).for_each(|thread| println!("ST {thread}"));
+        }
+    }
+}

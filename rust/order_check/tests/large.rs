@@ -1,0 +1,46 @@
+//! The command `order_large`.
+
+use std::io::Write;
+use std::process::{Command, Output, Stdio};
+
+/// Store buffering.
+const SB: &[u8] = b"PR\x02\x02\x02TH\x02IN\x05\x00\x00\x01\x00IN\x06\x00\x01\x00\x00\
+    TH\x02IN\x05\x00\x01\x01\x00IN\x06\x00\x00\x00\x00";
+
+fn run(arguments: &[&str], input: &[u8]) -> Output {
+    let mut child = Command::new(env!("CARGO_BIN_EXE_order_large"))
+        .args(arguments)
+        .stdin(Stdio::piped())
+        .stdout(Stdio::piped())
+        .stderr(Stdio::piped())
+        .spawn()
+        .unwrap();
+    let _ = child.stdin.take().unwrap().write_all(input);
+    child.wait_with_output().unwrap()
+}
+
+fn printed(arguments: &[&str], input: &[u8]) -> String {
+    let output = run(arguments, input);
+    assert!(output.status.success(), "{output:?}");
+    String::from_utf8(output.stdout).unwrap()
+}
+
+#[test]
+fn prints_the_lines_of_document_01() {
+    assert_eq!(printed(&["413"], SB), "NR 7 3 2 R 0 0\nST 1\nST 1\nST 2\n");
+    assert_eq!(printed(&["412"], SB), "FU 6\n");
+    assert_eq!(printed(&["1000000"], b"PR\x01\x01\x02TH\x00"), "RB 1\n");
+    assert_eq!(printed(&["0"], b""), "NO 1\n");
+}
+
+#[test]
+fn says_what_is_wrong() {
+    for arguments in [&[][..], &["many"], &["1", "2", "3"]] {
+        let output = run(arguments, b"");
+        assert_eq!(output.status.code(), Some(2));
+        assert!(String::from_utf8(output.stderr).unwrap().starts_with("usage: "));
+    }
+    let output = run(&["1000", "no such file"], b"");
+    assert_eq!(output.status.code(), Some(1));
+    assert!(String::from_utf8(output.stderr).unwrap().contains("no such file"));
+}
