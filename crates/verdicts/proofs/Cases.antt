@@ -1,11 +1,10 @@
--- Cases of document 01 about the definitions on graphs and schedules: the verdict of MP, SB, 2+2W and the barrier, and what
--- it says about all runs.
+-- What the verdict on MP, SB, 2+2W and the barrier says about all runs. Their answers, with counts and lent lengths, are the
+-- table of the crate `cases`.
 use Prim.Native.Nat.{ℕ}
 use native.Mathlib.Omega.{arith}
 use mathlib.Core.Path.{_≡_, refl, ap, subst, _∙_}
 use mathlib.Core.Option.{Option, none, some}
 use mathlib.Core.List.{List, [], _∷_}
-use lib.ListN.{length}
 use Rattle.program.specs.Program.{constant, Line, write, read, wait, Program}
 use Rattle.program.specs.Thread.{Read, Write}
 use Rattle.program_bytes.specs.Outcome.{accepted}
@@ -23,9 +22,6 @@ use Rattle.verdicts.proofs.Promises.{closed-is-robust, found-is-not-rob
 module _ {p : Program} (valid : Valid p) (N : ℕ) where
   outcome-by-search : {o : Outcome (Entry Situation) Ending} → searchedOn p N .outcome ≡ o → verdictOf p N .outcome ≡ o
   outcome-by-search e = ap (λ (v : Verdict (Entry Situation) Ending). v .outcome) (by-search valid N) ∙ e
-
-  count-by-search : {n : ℕ} → length (searchedOn p N .places) ≡ n → length (verdictOf p N .places) ≡ n
-  count-by-search e = ap (λ (v : Verdict (Entry Situation) Ending). length (v .places)) (by-search valid N) ∙ e
 
 -- A program whose spelling the reader gives back is valid.
 spelled-valid : (p : Program) → readOn (spell p) ≡ accepted p → Valid p
@@ -66,22 +62,9 @@ valid-two-writes = spelled-valid twoWrites (unfold reads-back in refl)
 valid-barrier : Valid barrier
 valid-barrier = spelled-valid barrier (unfold reads-back in refl)
 
--- "MP .. RB 13", with one place fewer "11, count 12".
-pub mp-counts : length (verdictOf mp 13 .places) ≡ 13
-mp-counts = count-by-search valid-mp 13 (unfold searchedOn in refl)
-
-pub mp-full : verdictOf mp 12 .outcome ≡ full
-mp-full = outcome-by-search valid-mp 12 (unfold searchedOn in refl)
-
-pub mp-full-counts : length (verdictOf mp 12 .places) ≡ 12
-mp-full-counts = count-by-search valid-mp 12 (unfold searchedOn in refl)
-
+-- MP and the barrier are robust.
 pub mp-robust : Robust mp
 mp-robust = closed-is-robust valid-mp 13 (outcome-by-search valid-mp 13 (unfold searchedOn in refl))
-
--- "Barrier .. RB 7."
-pub barrier-counts : length (verdictOf barrier 7 .places) ≡ 7
-barrier-counts = count-by-search valid-barrier 7 (unfold searchedOn in refl)
 
 pub barrier-robust : Robust barrier
 barrier-robust = closed-is-robust valid-barrier 7 (outcome-by-search valid-barrier 7 (unfold searchedOn in refl))
@@ -108,22 +91,13 @@ not-robust-by-search {p} valid N l e h =
     subst (λ (s : List ℕ). NotRobust p s (e .thread) (e .kind) (e .location) (e .value)) path
     (found-is-not-robust valid N x e (outcome-by-search valid N is))
 
--- "SB .. NR, count 7": thread 2, a read of x with the stale value 0, after the steps 1, 1, 2.
-pub sb-counts : length (verdictOf sb 7 .places) ≡ 7
-sb-counts = count-by-search valid-sb 7 (unfold searchedOn in refl)
-
+-- SB is not: thread 2, a read of x with the stale value 0, after the steps 1, 1, 2.
 pub sb-not-robust : NotRobust sb (0 ∷ 0 ∷ 1 ∷ []) 1 Read 0 0
 sb-not-robust =
     not-robust-by-search valid-sb 7 (0 ∷ 0 ∷ 1 ∷ []) (record { thread = 1; kind = Read; location = 0; value = 0 })
     (unfold searchedOn foundBy in refl)
 
-pub sb-full : verdictOf sb 6 .outcome ≡ full
-sb-full = outcome-by-search valid-sb 6 (unfold searchedOn in refl)
-
 -- "2+2W .. NR 8 3 2 W 0 0 with steps 1, 1, 2."
-pub two-writes-count : length (verdictOf twoWrites 8 .places) ≡ 8
-two-writes-count = count-by-search valid-two-writes 8 (unfold searchedOn in refl)
-
 pub two-writes-not-robust : NotRobust twoWrites (0 ∷ 0 ∷ 1 ∷ []) 1 Write 0 0
 two-writes-not-robust =
     not-robust-by-search valid-two-writes 8 (0 ∷ 0 ∷ 1 ∷ [])

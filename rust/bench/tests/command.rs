@@ -1,9 +1,9 @@
 //! The command `order_bench`.
 
-use std::process::{Command, Output};
+use std::process::Output;
 
 fn run(arguments: &[&str]) -> Output {
-    Command::new(env!("CARGO_BIN_EXE_order_bench")).args(arguments).output().unwrap()
+    run::run(env!("CARGO_BIN_EXE_order_bench"), arguments, b"")
 }
 
 #[test]

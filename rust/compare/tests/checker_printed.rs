@@ -1,9 +1,7 @@
 //! The printing program against the lines that the second program prints.
 
 use std::env;
-use std::io::Write;
 use std::path::{Path, PathBuf};
-use std::process::{Command, Stdio};
 
 use compare::checker::random_program;
 use models::{collection, encode};
@@ -18,14 +16,7 @@ fn program() -> PathBuf {
 
 #[track_caller]
 fn same(bytes: &[u8]) {
-    let mut child = Command::new(program())
-        .stdin(Stdio::piped())
-        .stdout(Stdio::piped())
-        .spawn()
-        .unwrap_or_else(|error| panic!("{}: {error}", program().display()));
-    // A program that refuses its input may be gone before all of it is written.
-    let _ = child.stdin.take().unwrap().write_all(bytes);
-    let printed = child.wait_with_output().unwrap().stdout;
+    let printed = run::run_at(Path::new("."), &program(), &[], bytes).stdout;
     let [table, trace] = PRINTING;
     let expected = check(bytes, table, trace).to_string();
     assert_eq!(String::from_utf8_lossy(&printed), expected, "of the bytes {bytes:?}");

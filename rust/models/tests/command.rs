@@ -1,9 +1,8 @@
 //! The command `order_asm`, run as a user runs it.
 
 use std::fs;
-use std::io::Write;
-use std::path::PathBuf;
-use std::process::{Command, Output, Stdio};
+use std::path::{Path, PathBuf};
+use std::process::Output;
 
 const SB: &str = "values 2\nlocations x y\nthread\n  x := 1\n  r0 := y\nthread\n  y := 1\n  r0 := x\n";
 const SB_BYTES: &[u8] = b"PR\x02\x02\x02TH\x02IN\x05\x00\x00\x01\x00IN\x06\x00\x01\x00\x00\
@@ -11,17 +10,7 @@ const SB_BYTES: &[u8] = b"PR\x02\x02\x02TH\x02IN\x05\x00\x00\x01\x00IN\x06\x00\x
 
 /// Runs it in a directory of the test's own, with this standard input.
 fn run(test: &str, arguments: &[&str], input: &[u8]) -> Output {
-    let mut child = Command::new(env!("CARGO_BIN_EXE_order_asm"))
-        .args(arguments)
-        .current_dir(directory(test))
-        .stdin(Stdio::piped())
-        .stdout(Stdio::piped())
-        .stderr(Stdio::piped())
-        .spawn()
-        .unwrap();
-    // It may stop before it has read all.
-    let _ = child.stdin.take().unwrap().write_all(input);
-    child.wait_with_output().unwrap()
+    run::run_at(&directory(test), Path::new(env!("CARGO_BIN_EXE_order_asm")), arguments, input)
 }
 
 fn directory(test: &str) -> PathBuf {

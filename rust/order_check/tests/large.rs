@@ -1,22 +1,13 @@
 //! The command `order_large`.
 
-use std::io::Write;
-use std::process::{Command, Output, Stdio};
+use std::process::Output;
 
 /// Store buffering.
 const SB: &[u8] = b"PR\x02\x02\x02TH\x02IN\x05\x00\x00\x01\x00IN\x06\x00\x01\x00\x00\
     TH\x02IN\x05\x00\x01\x01\x00IN\x06\x00\x00\x00\x00";
 
 fn run(arguments: &[&str], input: &[u8]) -> Output {
-    let mut child = Command::new(env!("CARGO_BIN_EXE_order_large"))
-        .args(arguments)
-        .stdin(Stdio::piped())
-        .stdout(Stdio::piped())
-        .stderr(Stdio::piped())
-        .spawn()
-        .unwrap();
-    let _ = child.stdin.take().unwrap().write_all(input);
-    child.wait_with_output().unwrap()
+    run::run(env!("CARGO_BIN_EXE_order_large"), arguments, input)
 }
 
 fn printed(arguments: &[&str], input: &[u8]) -> String {

@@ -1,7 +1,6 @@
 //! The command `second`, run as a user runs it.
 
-use std::io::Write;
-use std::process::{Command, Output, Stdio};
+use std::process::Output;
 
 use models::collection;
 
@@ -9,16 +8,7 @@ const SB: &[u8] = b"PR\x02\x02\x02TH\x02IN\x05\x00\x00\x01\x00IN\x06\x00\x01\x00
       TH\x02IN\x05\x00\x01\x01\x00IN\x06\x00\x00\x00\x00";
 
 fn run(arguments: &[&str], input: &[u8]) -> Output {
-    let mut child = Command::new(env!("CARGO_BIN_EXE_second"))
-        .args(arguments)
-        .stdin(Stdio::piped())
-        .stdout(Stdio::piped())
-        .stderr(Stdio::piped())
-        .spawn()
-        .unwrap();
-    // A command that does not read its input may be gone before it is written.
-    let _ = child.stdin.take().unwrap().write_all(input);
-    child.wait_with_output().unwrap()
+    run::run(env!("CARGO_BIN_EXE_second"), arguments, input)
 }
 
 /// It ends well and prints this, and nothing else.
