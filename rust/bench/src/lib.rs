@@ -3,5 +3,6 @@
 pub mod checkers;
 pub mod families;
 pub mod measure;
+pub mod summary;
 pub mod table;
 mod text;

@@ -6,8 +6,8 @@ use crate::measure::Measured;
 
 /// The first lines of the table.
 pub const HEADER: &str = "\
-| family     | situations | bytes |  plain ms |   a second | ns each | growth | proved ms |   a second | ns each | growth | ratio |
-|------------|-----------:|------:|----------:|-----------:|--------:|-------:|----------:|-----------:|--------:|-------:|------:|";
+| family     | situations | bytes |  plain ms |   a second | ns each | growth | proved ms |   a second | ns each | growth |  ratio |
+|------------|-----------:|------:|----------:|-----------:|--------:|-------:|----------:|-----------:|--------:|-------:|-------:|";
 
 /// The line of a program, with the next smaller one of its family.
 pub fn line(name: &str, measured: &Measured, smaller: Option<&Measured>) -> String {
@@ -15,7 +15,7 @@ pub fn line(name: &str, measured: &Measured, smaller: Option<&Measured>) -> Stri
     let plain = part(measured, smaller, |measured| Some(measured.plain));
     let proved = part(measured, smaller, |measured| measured.proved);
     let ratio = measured.ratio().map_or(String::new(), |ratio| format!("{ratio:.2}"));
-    format!("| {name:<10} | {situations:>10} | {place:>5} | {plain} | {proved} | {ratio:>5} |")
+    format!("| {name:<10} | {situations:>10} | {place:>5} | {plain} | {proved} | {ratio:>6} |")
 }
 
 /// The columns of one checker; empty where it was not measured.

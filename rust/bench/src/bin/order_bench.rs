@@ -4,6 +4,7 @@ use std::process::ExitCode;
 
 use bench::families::{Family, ALL};
 use bench::measure::{measure, Measured};
+use bench::summary::summary;
 use bench::table::{line, HEADER};
 
 const USAGE: &str =
@@ -20,7 +21,9 @@ fn main() -> ExitCode {
     match most {
         Ok(most) if !families.is_empty() => {
             println!("{HEADER}");
-            families.into_iter().for_each(|family| show(family, most));
+            let shown = |family: &Family| (family.name, show(family, most));
+            let measured: Vec<_> = families.into_iter().map(shown).collect();
+            summary(&measured).iter().for_each(|line| println!("{line}"));
             ExitCode::SUCCESS
         }
         _ => {
@@ -31,11 +34,12 @@ fn main() -> ExitCode {
 }
 
 /// Measures a family and prints a line for each of its programs.
-fn show(family: &Family, most: usize) {
-    let mut smaller: Option<Measured> = None;
+fn show(family: &Family, most: usize) -> Vec<Measured> {
+    let mut all: Vec<Measured> = Vec::new();
     for size in family.sizes.iter().filter(|size| size.situations <= most) {
         let measured = measure(family, size);
-        println!("{}", line(family.name, &measured, smaller.as_ref()));
-        smaller = Some(measured);
+        println!("{}", line(family.name, &measured, all.last()));
+        all.push(measured);
     }
+    all
 }
