@@ -1,4 +1,4 @@
-//! The whole checker, `liborder_check_c.a`, and how it is compared with the second one.
+//! The whole checker, `liborder_check_c.a`, and how it and the plain one are compared with the second one.
 
 mod difference;
 mod expected;

@@ -1,29 +1,42 @@
-//! Where the library answers or writes otherwise than the second program.
+//! Where the library, or the plain checker, answers or writes otherwise than the second program.
 
-use order_check::numbers;
 use second::Report;
 
 use super::expected::{agrees, Expected, Lengths};
 use super::lent::Lent;
 use super::place::decode;
 
-/// Where the library differs with these lengths, if it does: in its answer, in a byte of table or trace, or in a byte
+/// A checker: it gets program, table and trace, and answers with the numbers of the exported function.
+type Checker = fn(&[u8], &mut [u8], &mut [u8]) -> [u64; 8];
+
+/// Those that are compared with the second program, each by its name.
+const CHECKERS: [(&str, Checker); 2] = [("proved", order_check::numbers), ("plain", plain::check)];
+
+/// Where a checker differs with these lengths, if one does: in its answer, in a byte of table or trace, or in a byte
 /// beside them. What was lent must not matter: it is called with two fillings of which each is the other's complement,
 /// and once more in the memory that a call left, where the table has places already.
 pub fn difference(bytes: &[u8], expected: &Expected, lengths: Lengths) -> Option<String> {
     let report = expected.report(lengths);
-    let first = Run::filled(bytes, lengths, filling);
-    first.difference(&report, expected).or_else(|| {
-        let complement = Run::filled(bytes, lengths, |at| !filling(at));
-        let again = Run::new(bytes, first.table.again(), first.trace.again());
-        let other = |run: &Run| run.difference_from(&first, &report, expected);
-        [complement, again].iter().find_map(other)
+    difference_of_any(|checker| {
+        let first = Run::filled(checker, bytes, lengths, filling);
+        first.difference(&report, expected).or_else(|| {
+            let complement = Run::filled(checker, bytes, lengths, |at| !filling(at));
+            let again = Run::new(checker, bytes, first.table.again(), first.trace.again());
+            let other = |run: &Run| run.difference_from(&first, &report, expected);
+            [complement, again].iter().find_map(other)
+        })
     })
 }
 
 /// The same by one call, for tables in which a search takes seconds.
 pub fn difference_in_one_call(bytes: &[u8], expected: &Expected, lengths: Lengths) -> Option<String> {
-    Run::filled(bytes, lengths, filling).difference(&expected.report(lengths), expected)
+    let report = expected.report(lengths);
+    difference_of_any(|checker| Run::filled(checker, bytes, lengths, filling).difference(&report, expected))
+}
+
+/// The difference of the first checker that has one.
+fn difference_of_any(difference: impl Fn(Checker) -> Option<String>) -> Option<String> {
+    CHECKERS.iter().find_map(|&(name, checker)| Some(format!("{name}: {}", difference(checker)?)))
 }
 
 /// What is lent differs from byte to byte.
@@ -31,7 +44,7 @@ fn filling(at: usize) -> u8 {
     (at.wrapping_mul(37).wrapping_add(11) >> 1) as u8
 }
 
-/// One call of the library.
+/// One call of a checker.
 struct Run {
     answer: [u64; 8],
     table: Lent,
@@ -39,12 +52,12 @@ struct Run {
 }
 
 impl Run {
-    fn filled(bytes: &[u8], lengths: Lengths, filling: impl Fn(usize) -> u8) -> Run {
-        Run::new(bytes, Lent::filled(lengths.table, &filling), Lent::filled(lengths.trace, &filling))
+    fn filled(checker: Checker, bytes: &[u8], lengths: Lengths, filling: impl Fn(usize) -> u8) -> Run {
+        Run::new(checker, bytes, Lent::filled(lengths.table, &filling), Lent::filled(lengths.trace, &filling))
     }
 
-    fn new(bytes: &[u8], mut table: Lent, mut trace: Lent) -> Run {
-        let answer = numbers(bytes, table.lend(), trace.lend());
+    fn new(checker: Checker, bytes: &[u8], mut table: Lent, mut trace: Lent) -> Run {
+        let answer = checker(bytes, table.lend(), trace.lend());
         Run { answer, table, trace }
     }
 

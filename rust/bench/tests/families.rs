@@ -1,0 +1,70 @@
+//! The families are what the benchmark takes them for.
+
+use bench::checkers::{plain, proved, Checker, PROVED_UP_TO};
+use bench::families::{Family, Size, ALL};
+use second::{place_size, read, Ending, Search};
+
+/// Larger programs are searched by the benchmark only, which holds them to the same.
+const LARGEST: usize = 150_000;
+
+/// The proved checker compares all places.
+const LARGEST_FOR_PROVED: usize = 3_000;
+
+/// The second one goes by graphs.
+const LARGEST_FOR_SECOND: usize = 600;
+
+/// Every program up to so many situations.
+fn programs(largest: usize) -> impl Iterator<Item = (&'static Family, &'static Size)> {
+    let sizes = |family: &'static Family| family.sizes.iter().map(move |size| (family, size));
+    ALL.iter().flat_map(sizes).filter(move |(_, size)| size.situations <= largest)
+}
+
+/// The table after the search, in which the program has to be robust with the situations of its size.
+fn robust(checker: Checker, family: &Family, size: &Size) -> Vec<u8> {
+    let bytes = family.program(size);
+    let program = read(&bytes).unwrap();
+    let place = place_size(program.threads.len(), program.locations.into());
+    let mut table = vec![0; place * size.situations];
+    let answer = checker(&bytes, &mut table, &mut [], &mut vec![0; 2 * size.situations]);
+    let expected = [0, 0, size.situations as u64, 0, 0, 0, 0, 0];
+    assert_eq!(answer, expected, "{}, {:?}\n{}", family.name, size.rounds, family.text(size));
+    table
+}
+
+#[test]
+fn programs_are_robust_and_as_large_as_they_say() {
+    for (family, size) in programs(LARGEST) {
+        robust(plain, family, size);
+    }
+}
+
+#[test]
+fn the_proved_checker_leaves_the_same_table() {
+    for (family, size) in programs(LARGEST_FOR_PROVED.min(PROVED_UP_TO)) {
+        assert!(
+            robust(plain, family, size) == robust(proved, family, size),
+            "{}, {:?}",
+            family.name,
+            size.rounds
+        );
+    }
+}
+
+#[test]
+fn the_second_checker_says_so_too() {
+    for (family, size) in programs(LARGEST_FOR_SECOND) {
+        let search = Search::new(&read(&family.program(size)).unwrap(), size.situations);
+        assert_eq!((search.ending, search.places.len()), (Ending::Whole, size.situations), "{}", family.name);
+    }
+}
+
+#[test]
+fn places_of_a_family_have_one_size_and_programs_grow() {
+    for family in ALL {
+        let shape =
+            |size| read(&family.program(size)).map(|program| (program.threads.len(), program.locations));
+        assert!(family.sizes.iter().all(|size| shape(size) == shape(&family.sizes[0])), "{}", family.name);
+        assert!(family.sizes.is_sorted_by(|less, more| less.situations < more.situations), "{}", family.name);
+        assert_eq!(ALL.iter().filter(|other| other.name == family.name).count(), 1, "{}", family.name);
+    }
+}

@@ -1,0 +1,101 @@
+//! Where the parts of a place stand: docs/LAYOUT.md.
+
+use second::{place_size, Program};
+
+/// The thread, after the place it was reached from.
+pub const BY: usize = 4;
+
+/// The fingerprint.
+pub const PRINT: usize = 5;
+
+/// The situation. It starts with the lines.
+pub const LINES: usize = 9;
+
+/// Registers of a thread.
+pub const REGISTERS: usize = 4;
+
+/// Bytes of a set of values.
+pub const SET: usize = 2;
+
+/// The places of a program: for each part the byte at which it starts.
+///
+/// Parts of the same kind stand one after the other, so that some rules run through several of them: the three families
+/// of known locations, and the rows of threads and of newest writes.
+pub struct Layout {
+    pub threads: usize,
+    pub locations: usize,
+    pub registers: usize,
+    pub values: usize,
+    pub known_to_thread: usize,
+    pub known_to_newest: usize,
+    pub known_to_access: usize,
+    pub readable_by_thread: usize,
+    pub readable_by_newest: usize,
+    pub writable_by_thread: usize,
+    pub writable_by_newest: usize,
+    /// Of a whole place.
+    pub size: usize,
+}
+
+impl Layout {
+    pub fn of(program: &Program) -> Layout {
+        let (threads, locations) = (program.threads.len(), usize::from(program.locations));
+        let row = SET * locations;
+        let registers = LINES + threads;
+        let values = registers + REGISTERS * threads;
+        let known_to_thread = values + locations;
+        let known_to_newest = known_to_thread + threads;
+        let known_to_access = known_to_newest + locations;
+        let readable_by_thread = known_to_access + locations;
+        let readable_by_newest = readable_by_thread + row * threads;
+        let writable_by_thread = readable_by_newest + row * locations;
+        let writable_by_newest = writable_by_thread + row * threads;
+        Layout {
+            threads,
+            locations,
+            registers,
+            values,
+            known_to_thread,
+            known_to_newest,
+            known_to_access,
+            readable_by_thread,
+            readable_by_newest,
+            writable_by_thread,
+            writable_by_newest,
+            size: place_size(threads, locations),
+        }
+    }
+
+    /// The bytes of a row.
+    pub fn row(&self) -> usize {
+        SET * self.locations
+    }
+
+    /// Puts the situation in which every run starts into a place of zeros: each thread knows all starting writes, each
+    /// of which knows itself, and nothing is stale.
+    pub fn start(&self, place: &mut [u8]) {
+        let all = u8::MAX >> (8 - self.locations);
+        place[self.known_to_thread..self.known_to_newest].fill(all);
+        for x in 0..self.locations {
+            place[self.known_to_newest + x] = 1 << x;
+            place[self.known_to_access + x] = 1 << x;
+        }
+    }
+}
+
+#[cfg(test)]
+mod tests {
+    use super::Layout;
+    use second::Program;
+
+    #[test]
+    fn the_last_row_ends_the_place() {
+        for threads in 1..=8 {
+            for locations in 1..=8 {
+                let layout =
+                    Layout::of(&Program { threads: vec![Vec::new(); threads], locations, values: 2 });
+                assert_eq!(layout.writable_by_newest + layout.row() * layout.locations, layout.size);
+            }
+        }
+    }
+}
