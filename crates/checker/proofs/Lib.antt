@@ -5,4 +5,5 @@ pub mod Searched
 pub mod Ways
 pub mod Tracing
 pub mod Witnessed
+pub mod IndexKept
 pub mod Judging
