@@ -1,5 +1,5 @@
 // The printing program: reads a program's bytes from standard input and writes the report's text to standard output.
-use checker::check;
+use checker::check_indexed;
 use libc::STDERR_FILENO;
 use libc::STDIN_FILENO;
 use libc::STDOUT_FILENO;
@@ -18,6 +18,9 @@ const TABLE: usize = 49152;
 
 const TRACE: usize = 4096;
 
+// An index that has room for all places of the table: at most 1,890, of 26 bytes each, in half of its slots.
+const INDEX: usize = 4096;
+
 // Room for the longest text: a line of at most 93 bytes, and 7 for each byte of the trace (the theorem text-is-short).
 const TEXT: usize = 93 + 7 * TRACE;
 
@@ -25,6 +28,12 @@ fn table() -> [u8; TABLE]
     ensures { λ r. ⌜ 49152 ≡ length r ⌝ }
 {
     [0; TABLE]
+}
+
+fn index() -> [u64; INDEX]
+    ensures { λ r. ⌜ 4096 ≡ length r ⌝ }
+{
+    [0; INDEX]
 }
 
 fn text_buffer() -> [u8; TEXT]
@@ -58,12 +67,18 @@ fn skip_rest(is_full: bool) -> bool {
 }
 
 // Checks a program and lays the report's text in the buffer; how many bytes of it are text.
-fn print(program: &[u8], places: &mut [u8], trace: &mut [u8], buffer: &mut [u8]) -> usize
+fn print(
+    program: &[u8],
+    places: &mut [u8],
+    trace: &mut [u8],
+    slots: &mut [u64],
+    buffer: &mut [u8],
+) -> usize
     ensures printed { λ r. ⌜ Printed (now (program .entry)) (length (now (places .entry))) (now (trace .entry))
         (now (trace .exit)) (now (buffer .entry)) (now (buffer .exit)) r ⌝ }
     ensures counts { λ r. ⌜ Counts r (now (buffer .exit)) ⌝ }
 {
-    let report = check(program, places, trace);
+    let report = check_indexed(program, places, trace, slots);
     text(report, trace, buffer)
 }
 
@@ -79,8 +94,9 @@ fn main() {
     }
     let mut places = table();
     let mut trace = io::buffer();
+    let mut slots = index();
     let mut lines = text_buffer();
-    let length = print(&input[..n], &mut places, &mut trace, &mut lines);
+    let length = print(&input[..n], &mut places, &mut trace, &mut slots, &mut lines);
     if !io::write_all(STDOUT_FILENO, &lines[..length]) {
         io::write_all(
             STDERR_FILENO,
