@@ -9,8 +9,8 @@ use second::{Answer, Ending, Program};
 use super::difference::difference;
 use super::expected::{Expected, Lengths};
 
-/// The search of a random program ends at so many places: the proved one compares each with all before it. The models
-/// have up to some 30,000.
+/// The search of a random program ends at so many places: without an index the proved one compares each with all before
+/// it. The models have up to some 30,000.
 const PLACES: usize = 200;
 
 /// A random program for the comparison.
