@@ -55,8 +55,8 @@ fn is_enough(times: &[Duration], size: &Size) -> bool {
     times.len() >= least && (took >= ENOUGH || times.len() >= MOST_RUNS)
 }
 
-/// How many bytes of stack the proved checker uses for the smallest program of a family. Its functions have frames of
-/// fixed sizes and none calls itself, so that larger programs need no more.
+/// How many bytes of stack the proved checker uses for the smallest program of a family. By its machine code the frames
+/// have fixed sizes and no function calls itself, so that larger programs need no more.
 pub fn stack(family: &Family) -> usize {
     let mut lent = Lent::new(family, &family.sizes[0]);
     used(|| {
