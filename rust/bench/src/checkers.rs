@@ -3,13 +3,9 @@
 /// A checker: it gets program, table, trace and index, and answers with the numbers of the exported function.
 pub type Checker = fn(&[u8], &mut [u8], &mut [u8], &mut [u64]) -> [u64; 8];
 
-/// The proved checker is measured up to so many situations: it compares each with all before it, so that its time grows
-/// with their square.
-pub const PROVED_UP_TO: usize = 20_000;
-
-/// The proved checker. It uses no index today.
-pub fn proved(program: &[u8], table: &mut [u8], trace: &mut [u8], _index: &mut [u64]) -> [u64; 8] {
-    order_check::numbers(program, table, trace)
+/// The proved checker.
+pub fn proved(program: &[u8], table: &mut [u8], trace: &mut [u8], index: &mut [u64]) -> [u64; 8] {
+    order_check::numbers_indexed(program, table, trace, index)
 }
 
 /// The plain checker, which allocates an index of its own.

@@ -3,6 +3,7 @@
 pub mod checkers;
 pub mod families;
 pub mod measure;
+mod stack;
 pub mod summary;
 pub mod table;
 mod text;

@@ -15,16 +15,16 @@ pub fn summary(families: &[(&str, Vec<Measured>)]) -> Vec<String> {
         .map(|(name, all)| (*name, all.iter().filter(|measured| measured.situations >= FROM).collect()))
         .collect();
     let ratios = large.iter().flat_map(|(name, all)| all.iter().map(|one| (*name, one.ratio())));
-    let growths = |time: fn(&Measured) -> Option<Duration>| {
-        large.iter().map(move |(name, all)| (*name, growth(all, time)))
+    let growths = |time: fn(&Measured) -> Duration| {
+        large.iter().filter_map(move |(name, all)| Some((*name, growth(all, time)?)))
     };
     let lines = [
         ("ratio", largest(ratios)),
         (
             "growth of the plain checker's time for a situation, first to last",
-            largest(growths(|one| Some(one.plain))),
+            largest(growths(|one| one.plain)),
         ),
-        ("growth of the proved checker's, as far as it was measured", largest(growths(|one| one.proved))),
+        ("growth of the proved checker's", largest(growths(|one| one.proved))),
     ];
     let line = |(what, found): (&str, Option<(&str, f64)>)| {
         let (name, number) = found?;
@@ -33,19 +33,16 @@ pub fn summary(families: &[(&str, Vec<Measured>)]) -> Vec<String> {
     lines.into_iter().filter_map(line).collect()
 }
 
-/// How many times the time per situation of the first program that of the last is, of those that were measured.
-fn growth(all: &[&Measured], time: fn(&Measured) -> Option<Duration>) -> Option<f64> {
-    let each = |one: &&Measured| Some(time(one)?.as_secs_f64() / one.situations as f64);
-    let times: Vec<f64> = all.iter().filter_map(each).collect();
-    match times[..] {
-        [first, .., last] => Some(last / first),
+/// How many times the time for a situation of the first program that of the last is, where there are two.
+fn growth(all: &[&Measured], time: fn(&Measured) -> Duration) -> Option<f64> {
+    match all {
+        [first, .., last] => Some(last.each(time) / first.each(time)),
         _ => None,
     }
 }
 
-fn largest<'a>(numbers: impl Iterator<Item = (&'a str, Option<f64>)>) -> Option<(&'a str, f64)> {
-    let there = numbers.filter_map(|(name, number)| Some((name, number?)));
-    there.max_by(|(_, one), (_, other)| one.total_cmp(other))
+fn largest<'a>(numbers: impl Iterator<Item = (&'a str, f64)>) -> Option<(&'a str, f64)> {
+    numbers.max_by(|(_, one), (_, other)| one.total_cmp(other))
 }
 
 #[cfg(test)]
@@ -53,16 +50,16 @@ mod tests {
     use super::{summary, Measured};
     use std::time::Duration;
 
-    fn measured(situations: usize, plain: u64, proved: Option<u64>) -> Measured {
-        let proved = proved.map(Duration::from_millis);
-        Measured { situations, place: 26, plain: Duration::from_millis(plain), proved }
+    fn measured(situations: usize, plain: u64, proved: u64) -> Measured {
+        let [plain, proved] = [plain, proved].map(Duration::from_millis);
+        Measured { situations, place: 26, plain, proved }
     }
 
     #[test]
     fn of_two_families() {
-        let small = measured(100, 1, Some(50));
-        let first = vec![small, measured(10_000, 10, Some(15)), measured(100_000, 130, Some(180))];
-        let second = vec![measured(10_000, 20, Some(50)), measured(1_000_000, 2_200, None)];
+        let small = measured(100, 1, 50);
+        let first = vec![small, measured(10_000, 10, 15), measured(100_000, 130, 180)];
+        let second = vec![measured(10_000, 20, 50), measured(1_000_000, 2_200, 5_500)];
         let lines = summary(&[("a", first), ("b", second)]);
         let ends = ["2.50 (b)", "1.30 (a)", "1.20 (a)"];
         assert!(

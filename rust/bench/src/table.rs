@@ -12,30 +12,28 @@ pub const HEADER: &str = "\
 /// The line of a program, with the next smaller one of its family.
 pub fn line(name: &str, measured: &Measured, smaller: Option<&Measured>) -> String {
     let Measured { situations, place, .. } = measured;
-    let plain = part(measured, smaller, |measured| Some(measured.plain));
+    let plain = part(measured, smaller, |measured| measured.plain);
     let proved = part(measured, smaller, |measured| measured.proved);
-    let ratio = measured.ratio().map_or(String::new(), |ratio| format!("{ratio:.2}"));
-    format!("| {name:<10} | {situations:>10} | {place:>5} | {plain} | {proved} | {ratio:>6} |")
+    let ratio = measured.ratio();
+    format!("| {name:<10} | {situations:>10} | {place:>5} | {plain} | {proved} | {ratio:>6.2} |")
 }
 
-/// The columns of one checker; empty where it was not measured.
-fn part(
-    measured: &Measured,
-    smaller: Option<&Measured>,
-    time: impl Fn(&Measured) -> Option<Duration>,
-) -> String {
-    let each = |measured: &Measured| Some(time(measured)?.as_secs_f64() / measured.situations as f64);
-    let ms = time(measured).map(|time| format!("{:.3}", 1e3 * time.as_secs_f64()));
-    let rate = each(measured).map(|each| format!("{:.0}", 1.0 / each));
-    let growth = smaller.and_then(each).zip(each(measured)).map(|(less, more)| format!("{:.2}", more / less));
-    let each = each(measured).map(|each| format!("{:.0}", 1e9 * each));
-    let [ms, rate, each, growth] = [ms, rate, each, growth].map(Option::unwrap_or_default);
-    format!("{ms:>9} | {rate:>10} | {each:>7} | {growth:>6}")
+/// The columns of one checker.
+fn part(measured: &Measured, smaller: Option<&Measured>, time: fn(&Measured) -> Duration) -> String {
+    let ms = 1e3 * time(measured).as_secs_f64();
+    let each = measured.each(time);
+    let growth = smaller.map_or(String::new(), |smaller| format!("{:.2}", each / smaller.each(time)));
+    format!("{ms:>9.3} | {:>10.0} | {:>7.0} | {growth:>6}", 1.0 / each, 1e9 * each)
 }
 
 impl Measured {
     /// How many times the plain checker's time the proved one took.
-    pub fn ratio(&self) -> Option<f64> {
-        Some(self.proved?.as_secs_f64() / self.plain.as_secs_f64())
+    pub fn ratio(&self) -> f64 {
+        self.proved.as_secs_f64() / self.plain.as_secs_f64()
+    }
+
+    /// The seconds that a checker took for each situation.
+    pub fn each(&self, time: fn(&Measured) -> Duration) -> f64 {
+        time(self).as_secs_f64() / self.situations as f64
     }
 }

@@ -12,9 +12,10 @@ fn prints_a_line_for_each_program() {
     let printed = String::from_utf8(output.stdout).unwrap();
     let lines: Vec<&str> = printed.lines().collect();
     let fronts = ["| news-2     |         82 |    59 |", "| news-3     |         82 |    73 |"];
-    assert_eq!(lines.len(), 5, "{printed}");
+    assert_eq!(lines.len(), 6, "{printed}");
     assert!(fronts.iter().zip(&lines[2..]).all(|(front, line)| line.starts_with(front)), "{printed}");
-    assert!(lines.iter().all(|line| line.len() == lines[0].len()), "{printed}");
+    assert!(lines[..5].iter().all(|line| line.len() == lines[0].len()), "{printed}");
+    assert!(lines[5].starts_with("stack of the proved checker: at most "), "{printed}");
 }
 
 #[test]

@@ -1,14 +1,11 @@
 //! The families are what the benchmark takes them for.
 
-use bench::checkers::{plain, proved, Checker, PROVED_UP_TO};
+use bench::checkers::{plain, proved, Checker};
 use bench::families::{Family, Size, ALL};
 use second::{place_size, read, Ending, Search};
 
 /// Larger programs are searched by the benchmark only, which holds them to the same.
 const LARGEST: usize = 150_000;
-
-/// The proved checker compares all places.
-const LARGEST_FOR_PROVED: usize = 3_000;
 
 /// The second one goes by graphs.
 const LARGEST_FOR_SECOND: usize = 600;
@@ -32,21 +29,10 @@ fn robust(checker: Checker, family: &Family, size: &Size) -> Vec<u8> {
 }
 
 #[test]
-fn programs_are_robust_and_as_large_as_they_say() {
+fn programs_are_robust_and_as_large_as_they_say_and_both_checkers_leave_the_same_table() {
     for (family, size) in programs(LARGEST) {
-        robust(plain, family, size);
-    }
-}
-
-#[test]
-fn the_proved_checker_leaves_the_same_table() {
-    for (family, size) in programs(LARGEST_FOR_PROVED.min(PROVED_UP_TO)) {
-        assert!(
-            robust(plain, family, size) == robust(proved, family, size),
-            "{}, {:?}",
-            family.name,
-            size.rounds
-        );
+        let same = robust(plain, family, size) == robust(proved, family, size);
+        assert!(same, "{}, {:?}", family.name, size.rounds);
     }
 }
 

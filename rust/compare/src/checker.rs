@@ -2,11 +2,14 @@
 
 mod difference;
 mod expected;
+mod index;
 mod inputs;
 mod lent;
 mod place;
+mod run;
 
 pub use difference::{difference, difference_in_one_call};
 pub use expected::{Expected, Lengths};
-pub use inputs::{compare_program, lengths, random_program, Tally};
+pub use index::index_of;
+pub use inputs::{compare_program, index_lengths, lengths, random_program, Tally};
 pub use place::{decode, Written};

@@ -1,7 +1,8 @@
 //! The two checkers on every model, in tables that just suffice and in others.
 
-use compare::checker::{difference, difference_in_one_call, Expected, Lengths};
+use compare::checker::{difference, difference_in_one_call, index_lengths, Expected, Lengths};
 use models::collection;
+use random::Numbers;
 
 /// More places than any model needs.
 const PLACES: usize = 100_000;
@@ -13,21 +14,25 @@ const LONG: usize = 500_000;
 fn on_every_model() {
     let models = collection::load(&collection::directory()).unwrap();
     assert!(models.len() >= 46, "only {} models", models.len());
+    let mut numbers = Numbers::new(1);
     for model in models {
         let expected = Expected::new(&model.bytes, PLACES);
         let search = expected.search().expect("models are accepted");
         let just = search.places.len() * expected.place_size();
         let steps = search.schedule(search.places.len()).len();
+        let indexes = index_lengths(&mut numbers, search.places.len());
         if just > LONG {
             let lengths = Lengths { table: just, trace: steps };
-            let difference = difference_in_one_call(&model.bytes, &expected, lengths);
+            // Only the longest index makes it fast.
+            let difference =
+                difference_in_one_call(&model.bytes, &expected, lengths, &indexes[4..], &mut numbers);
             assert_eq!(difference, None, "{} with {lengths:?}", model.name);
             continue;
         }
         for table in [just, just - 1, just / 2, 49_152, just + 1_000] {
-            for trace in [steps, steps.saturating_sub(1)] {
+            for (trace, indexes) in [(steps, &indexes[..]), (steps.saturating_sub(1), &[])] {
                 let lengths = Lengths { table, trace };
-                let difference = difference(&model.bytes, &expected, lengths);
+                let difference = difference(&model.bytes, &expected, lengths, indexes, &mut numbers);
                 assert_eq!(difference, None, "{} with {lengths:?}", model.name);
             }
         }

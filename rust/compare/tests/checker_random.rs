@@ -1,5 +1,5 @@
-//! The two checkers on random programs and on damaged ones, each with several lengths of table and trace, and these
-//! with two fillings of what is lent and in memory that was used before.
+//! The two checkers on random programs and on damaged ones, each with several lengths of table, trace and index, and
+//! these with two fillings of what is lent and in memory that was used before.
 
 use compare::checker::{compare_program, random_program, Tally};
 use models::encode;
@@ -15,8 +15,9 @@ fn on_random_programs() {
             panic!("program {number}: {difference}");
         }
     }
-    let Tally { robust, not_robust, full, short_trace, .. } = tally;
+    let Tally { robust, not_robust, full, short_trace, indexed, .. } = tally;
     assert!([robust, not_robust, full, short_trace].iter().all(|&count| count >= 500), "{tally}");
+    assert!(indexed >= 20_000, "{tally}");
 }
 
 #[test]

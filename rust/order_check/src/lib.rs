@@ -1,12 +1,12 @@
 //! The proved order checker, safe to call: does a small concurrent program behave on a release/acquire machine exactly
 //! as on a sequentially consistent (SC) one?
 //!
-//! The caller lends all the memory: a table, in which the search writes a place for each situation that it meets, and a
-//! trace, which gets the steps of a run that shows a program not to be robust. No memory is allocated, and nothing is
-//! kept after the call. What the lent bytes held before changes no answer.
+//! The caller lends all the memory: a table, in which the search writes a place for each situation that it meets, a
+//! trace, which gets the steps of a run that shows a program not to be robust, and for large tables an index. No memory
+//! is allocated, and nothing is kept after the call. What was lent changes no answer by what it held before.
 //!
 //! ```
-//! use order_check::{check, Kind, Report};
+//! use order_check::{check, check_indexed, Kind, Report};
 //!
 //! // Store buffering: x := 1; read y ‖ y := 1; read x.
 //! let program = b"PR\x02\x02\x02TH\x02IN\x05\x00\x00\x01\x00IN\x06\x00\x01\x00\x00\
@@ -18,6 +18,9 @@
 //! let stale = Report::NotRobust { count: 7, steps: 3, thread: 2, kind: Kind::Read, location: 0, value: 0 };
 //! assert_eq!(report, stale);
 //! assert_eq!(trace[..3], [1, 1, 2]);
+//!
+//! // The same by an index, of two slots for each place that there will be.
+//! assert_eq!(check_indexed(program, &mut table, &mut trace, &mut [0; 14]), stale);
 //! ```
 
 mod report;
@@ -30,6 +33,9 @@ pub use report::{Kind, Report};
 /// suffice is [reported](Report::Full) [as such](Report::Short). The table has as many places as fit into it whole, at
 /// most 1,000,000,000; for a program of T threads and L locations a place has 9 + T × (6 + 4L) + L × (3 + 4L) bytes.
 ///
+/// Each situation is compared with all before it, so that the time grows with the square of their number:
+/// [`check_indexed`] is for large tables.
+///
 /// # Panics
 ///
 /// Never with the proved library; with another one, where it answers what the proved one cannot.
@@ -37,11 +43,24 @@ pub fn check(program: &[u8], table: &mut [u8], trace: &mut [u8]) -> Report {
     Report::of(numbers(program, table, trace))
 }
 
-/// The same as eight numbers, for those who compare them with what the C header `order_check.h` says: verdict, number,
+/// The same with a lent index: the report, the table and the trace are those of [`check`] for every index, of any
+/// length and whatever it held before.
+///
+/// Places up to half as many as the index has slots are found by it; those after them are compared one by one. With two
+/// slots for each place that there will be, the time grows with the number of places and no faster. A call clears the
+/// whole index, except where the program is [refused](Report::Refused): that leaves it as it was.
+///
+/// # Panics
+///
+/// As [`check`] does.
+pub fn check_indexed(program: &[u8], table: &mut [u8], trace: &mut [u8], index: &mut [u64]) -> Report {
+    Report::of(numbers_indexed(program, table, trace, index))
+}
+
+/// [`check`] in eight numbers, for those who compare them with what the C header `order_check.h` says: verdict, number,
 /// count, steps, thread, kind, location, value.
 pub fn numbers(program: &[u8], table: &mut [u8], trace: &mut [u8]) -> [u64; 8] {
-    // The library writes every field: this number is none of its answers.
-    let mut answer = [u64::MAX; 8];
+    let mut answer = UNANSWERED;
     // SAFETY: the library reads the program, reads and writes within the lengths of table and trace, writes the eight
     // numbers of the answer, and keeps nothing. No two of the four borrows overlap.
     unsafe {
@@ -58,6 +77,29 @@ pub fn numbers(program: &[u8], table: &mut [u8], trace: &mut [u8]) -> [u64; 8] {
     answer
 }
 
+/// [`check_indexed`] in the same eight numbers.
+pub fn numbers_indexed(program: &[u8], table: &mut [u8], trace: &mut [u8], index: &mut [u64]) -> [u64; 8] {
+    let mut answer = UNANSWERED;
+    // SAFETY: as above, and the index is read and written within its length too. No two of the five borrows overlap.
+    unsafe {
+        order_check_indexed(
+            program.as_ptr(),
+            program.len(),
+            table.as_mut_ptr(),
+            table.len(),
+            trace.as_mut_ptr(),
+            trace.len(),
+            index.as_mut_ptr(),
+            index.len(),
+            &mut answer,
+        );
+    }
+    answer
+}
+
+/// The library writes every field: these numbers are none of its answers.
+const UNANSWERED: [u64; 8] = [u64::MAX; 8];
+
 extern "C" {
     fn order_check(
         program: *const u8,
@@ -66,6 +108,18 @@ extern "C" {
         table_len: usize,
         trace: *mut u8,
         trace_len: usize,
+        answer: *mut [u64; 8],
+    );
+
+    fn order_check_indexed(
+        program: *const u8,
+        program_len: usize,
+        table: *mut u8,
+        table_len: usize,
+        trace: *mut u8,
+        trace_len: usize,
+        index: *mut u64,
+        index_len: usize,
         answer: *mut [u64; 8],
     );
 }

@@ -38,7 +38,7 @@ pub enum Report {
         /// A trace of this length suffices: to see the run, call again with one.
         wanted: usize,
     },
-    /// The bytes are no program. Table and trace are unchanged.
+    /// The bytes are no program. All that was lent is unchanged.
     Refused {
         /// The first check that failed, 1 to 9, as README.md at the root of the repository lists them.
         number: u8,

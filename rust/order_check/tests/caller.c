@@ -21,17 +21,13 @@ static const uint8_t empty_thread[] = {'P', 'R', 1, 1, 2, 'T', 'H', 0};
 /* Seven places of two threads and two locations have 413 bytes. */
 static uint8_t table[413];
 static uint8_t trace[4];
+static uint64_t slots[15];
 
 static int failures = 0;
 
-/* Checks a program with so much lent, and compares the answer. */
-static void expect(const char *name, const uint8_t *program, size_t length, size_t table_length, size_t trace_length,
-                   const uint64_t expected[ORDER_FIELDS])
+/* Compares an answer. */
+static void compare(const char *name, const uint64_t answer[ORDER_FIELDS], const uint64_t expected[ORDER_FIELDS])
 {
-    uint64_t answer[ORDER_FIELDS];
-    memset(answer, 0xff, sizeof answer);
-    memset(trace, 9, sizeof trace);
-    order_check(program, length, table, table_length, trace, trace_length, answer);
     for (int field = 0; field < ORDER_FIELDS; field++) {
         if (answer[field] != expected[field]) {
             failures++;
@@ -39,6 +35,23 @@ static void expect(const char *name, const uint8_t *program, size_t length, size
                    (unsigned long long)expected[field]);
         }
     }
+}
+
+/* Checks a program with so much lent, with indexes of all lengths and without one, and compares the answers. */
+static void expect(const char *name, const uint8_t *program, size_t length, size_t table_length, size_t trace_length,
+                   const uint64_t expected[ORDER_FIELDS])
+{
+    uint64_t answer[ORDER_FIELDS];
+    for (size_t index_length = 0; index_length <= sizeof slots / sizeof slots[0]; index_length++) {
+        memset(answer, 0xff, sizeof answer);
+        memset(slots, 0xff, sizeof slots);
+        order_check_indexed(program, length, table, table_length, trace, trace_length, slots, index_length, answer);
+        compare(name, answer, expected);
+    }
+    memset(answer, 0xff, sizeof answer);
+    memset(trace, 9, sizeof trace);
+    order_check(program, length, table, table_length, trace, trace_length, answer);
+    compare(name, answer, expected);
 }
 
 /* Compares the whole trace after a call. */

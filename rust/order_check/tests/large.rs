@@ -25,6 +25,16 @@ fn prints_the_lines_of_document_01() {
 }
 
 #[test]
+fn an_index_makes_it_fast() {
+    // Four threads of 15 lines that read one location, which only makes them go on: 16 to the power of four situations.
+    let thread = [b"TH\x0f".as_slice(), &b"IN\x06\x00\x00\x00\x00".repeat(15)].concat();
+    let program = [b"PR\x04\x01\x02".as_slice(), &thread.repeat(4)].concat();
+    // A place of four threads and one location has 56 bytes.
+    assert_eq!(printed(&["3670016"], &program), "RB 65536\n");
+    assert_eq!(printed(&["3670015"], &program), "FU 65535\n");
+}
+
+#[test]
 fn says_what_is_wrong() {
     for arguments in [&[][..], &["many"], &["1", "2", "3"]] {
         let output = run(arguments, b"");

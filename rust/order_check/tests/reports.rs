@@ -1,6 +1,6 @@
 //! The cases of document 01 as a user of the crate gets them.
 
-use order_check::{check, Kind, Report};
+use order_check::{check, check_indexed, Kind, Report};
 
 /// x := 1; read y ‖ y := 1; read x; K = 2.
 const SB: &[u8] = b"PR\x02\x02\x02TH\x02IN\x05\x00\x00\x01\x00IN\x06\x00\x01\x00\x00\
@@ -64,4 +64,20 @@ fn what_is_no_program_changes_nothing() {
     let more = [SB, b"\x00"].concat();
     assert_eq!(check(&more, &mut table, &mut trace), Report::Refused { number: 9 });
     assert_eq!((table, trace), ([7; SEVEN], [9; 4]));
+    let mut index = [5; 14];
+    assert_eq!(check_indexed(&more, &mut table, &mut trace, &mut index), Report::Refused { number: 9 });
+    assert_eq!((table, trace, index), ([7; SEVEN], [9; 4], [5; 14]));
+}
+
+#[test]
+fn an_index_of_any_length_changes_nothing_but_itself() {
+    let (mut table, mut trace) = ([0; SEVEN], [9; 4]);
+    check(SB, &mut table, &mut trace);
+    for slots in 0..20 {
+        let (mut other_table, mut other_trace, mut index) = ([7; SEVEN], [9; 4], vec![u64::MAX; slots]);
+        let report = check_indexed(SB, &mut other_table, &mut other_trace, &mut index);
+        assert_eq!(report, not_robust(Kind::Read));
+        assert_eq!((other_table, other_trace), (table, trace));
+        assert_eq!(index.iter().filter(|&&slot| slot != 0).count(), 7.min(slots / 2));
+    }
 }

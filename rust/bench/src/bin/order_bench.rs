@@ -3,7 +3,7 @@
 use std::process::ExitCode;
 
 use bench::families::{Family, ALL};
-use bench::measure::{measure, Measured};
+use bench::measure::{measure, stack, Measured};
 use bench::summary::summary;
 use bench::table::{line, HEADER};
 
@@ -21,9 +21,11 @@ fn main() -> ExitCode {
     match most {
         Ok(most) if !families.is_empty() => {
             println!("{HEADER}");
-            let shown = |family: &Family| (family.name, show(family, most));
-            let measured: Vec<_> = families.into_iter().map(shown).collect();
+            let shown = |family: &&Family| (family.name, show(family, most));
+            let measured: Vec<_> = families.iter().map(shown).collect();
             summary(&measured).iter().for_each(|line| println!("{line}"));
+            let stack = families.iter().map(|family| stack(family)).max().unwrap_or_default();
+            println!("stack of the proved checker: at most {stack} bytes, with that of the call");
             ExitCode::SUCCESS
         }
         _ => {

@@ -1,42 +1,43 @@
 //! Where the library, or the plain checker, answers or writes otherwise than the second program.
 
+use order_check::numbers_indexed;
+use random::Numbers;
 use second::Report;
 
-use super::expected::{agrees, Expected, Lengths};
+use super::expected::{Expected, Lengths};
+use super::index::index_of;
 use super::lent::Lent;
-use super::place::decode;
+use super::run::Run;
 
 /// A checker: it gets program, table and trace, and answers with the numbers of the exported function.
 type Checker = fn(&[u8], &mut [u8], &mut [u8]) -> [u64; 8];
 
-/// Those that are compared with the second program, each by its name.
+/// Those that are compared with the second program, each by its name, the proved one first.
 const CHECKERS: [(&str, Checker); 2] = [("proved", order_check::numbers), ("plain", plain::check)];
 
 /// Where a checker differs with these lengths, if one does: in its answer, in a byte of table or trace, or in a byte
 /// beside them. What was lent must not matter: it is called with two fillings of which each is the other's complement,
-/// and once more in the memory that a call left, where the table has places already.
-pub fn difference(bytes: &[u8], expected: &Expected, lengths: Lengths) -> Option<String> {
-    let report = expected.report(lengths);
-    difference_of_any(|checker| {
-        let first = Run::filled(checker, bytes, lengths, filling);
-        first.difference(&report, expected).or_else(|| {
-            let complement = Run::filled(checker, bytes, lengths, |at| !filling(at));
-            let again = Run::new(checker, bytes, first.table.again(), first.trace.again());
-            let other = |run: &Run| run.difference_from(&first, &report, expected);
-            [complement, again].iter().find_map(other)
-        })
-    })
+/// and once more in the memory that a call left, where the table has places already. The proved one is called with
+/// indexes of these lengths, too, filled with random numbers, and must leave in them what is due.
+pub fn difference(
+    bytes: &[u8],
+    expected: &Expected,
+    lengths: Lengths,
+    indexes: &[usize],
+    numbers: &mut Numbers,
+) -> Option<String> {
+    Compared::new(bytes, expected, lengths).difference(Compared::thrice, indexes, numbers)
 }
 
-/// The same by one call, for tables in which a search takes seconds.
-pub fn difference_in_one_call(bytes: &[u8], expected: &Expected, lengths: Lengths) -> Option<String> {
-    let report = expected.report(lengths);
-    difference_of_any(|checker| Run::filled(checker, bytes, lengths, filling).difference(&report, expected))
-}
-
-/// The difference of the first checker that has one.
-fn difference_of_any(difference: impl Fn(Checker) -> Option<String>) -> Option<String> {
-    CHECKERS.iter().find_map(|&(name, checker)| Some(format!("{name}: {}", difference(checker)?)))
+/// The same by one call of each checker, for tables in which a search takes seconds.
+pub fn difference_in_one_call(
+    bytes: &[u8],
+    expected: &Expected,
+    lengths: Lengths,
+    indexes: &[usize],
+    numbers: &mut Numbers,
+) -> Option<String> {
+    Compared::new(bytes, expected, lengths).difference(Compared::once, indexes, numbers)
 }
 
 /// What is lent differs from byte to byte.
@@ -44,74 +45,75 @@ fn filling(at: usize) -> u8 {
     (at.wrapping_mul(37).wrapping_add(11) >> 1) as u8
 }
 
-/// One call of a checker.
-struct Run {
-    answer: [u64; 8],
-    table: Lent,
-    trace: Lent,
+/// Program bytes, how much is lent, and what the second program says of them.
+struct Compared<'a> {
+    bytes: &'a [u8],
+    expected: &'a Expected,
+    lengths: Lengths,
+    report: Report,
 }
 
-impl Run {
-    fn filled(checker: Checker, bytes: &[u8], lengths: Lengths, filling: impl Fn(usize) -> u8) -> Run {
-        Run::new(checker, bytes, Lent::filled(lengths.table, &filling), Lent::filled(lengths.trace, &filling))
+impl<'a> Compared<'a> {
+    fn new(bytes: &'a [u8], expected: &'a Expected, lengths: Lengths) -> Compared<'a> {
+        Compared { bytes, expected, lengths, report: expected.report(lengths) }
     }
 
-    fn new(checker: Checker, bytes: &[u8], mut table: Lent, mut trace: Lent) -> Run {
-        let answer = checker(bytes, table.lend(), trace.lend());
-        Run { answer, table, trace }
+    /// The difference of the first checker that has one; each is called as `called` says.
+    fn difference(
+        &self,
+        called: fn(&Self, Checker) -> Result<Run, String>,
+        indexes: &[usize],
+        numbers: &mut Numbers,
+    ) -> Option<String> {
+        let runs = CHECKERS.map(|(name, checker)| {
+            called(self, checker).map_err(|difference| format!("{name}: {difference}"))
+        });
+        match runs {
+            [Ok(proved), Ok(_)] => {
+                let prints = proved.prints(&self.report, self.expected);
+                indexes.iter().find_map(|&slots| {
+                    let difference = self.indexed(&proved, &prints, slots, numbers)?;
+                    Some(format!("proved with an index of {slots}: {difference}"))
+                })
+            }
+            [proved, plain] => proved.err().or(plain.err()),
+        }
     }
 
-    fn difference(&self, report: &Report, expected: &Expected) -> Option<String> {
-        if !agrees(self.answer, &report.answer) {
-            return Some(format!("answer: expected {:?}, found {:?}", report.answer, self.answer));
-        }
-        let found = self.trace.front(report.trace.len());
-        if found != report.trace {
-            return Some(format!("trace: expected {:?}, found {found:?}", report.trace));
-        }
-        self.place_difference(report, expected).or_else(|| self.changed(report, expected))
+    /// One call.
+    fn once(&self, checker: Checker) -> Result<Run, String> {
+        let run = Run::filled(|table, trace| checker(self.bytes, table, trace), self.lengths, filling);
+        run.difference(&self.report, self.expected).map_or(Ok(run), Err)
     }
 
-    /// Where this run, with other memory, differs from one that is as expected.
-    fn difference_from(&self, first: &Run, report: &Report, expected: &Expected) -> Option<String> {
-        if self.answer != first.answer {
-            return Some(format!("what was lent changes the answer {:?} to {:?}", first.answer, self.answer));
-        }
-        let places = report.places.len() * expected.place_size();
-        if self.table.front(places) != first.table.front(places) {
-            return Some("what was lent changes the places".into());
-        }
-        if self.trace.front(report.trace.len()) != report.trace {
-            return Some("what was lent changes the trace".into());
-        }
-        self.changed(report, expected)
+    /// Three calls, each with another filling. The first is that of one call.
+    fn thrice(&self, checker: Checker) -> Result<Run, String> {
+        let first = self.once(checker)?;
+        let call = |table: &mut [u8], trace: &mut [u8]| checker(self.bytes, table, trace);
+        let others = [Run::filled(call, self.lengths, |at| !filling(at)), first.again(call)];
+        let difference = |run: &Run| run.difference_from(&first, &self.report, self.expected);
+        others.iter().find_map(difference).map_or(Ok(first), Err)
     }
 
-    /// A byte that had to stay as it was.
-    fn changed(&self, report: &Report, expected: &Expected) -> Option<String> {
-        let table = self.table.changed(report.places.len() * expected.place_size());
-        let trace = self.trace.changed(report.trace.len());
-        let what = |what, at: Option<isize>| at.map(|at| format!("{what}: byte {at} changed"));
-        what("table", table).or(what("trace", trace))
+    /// The difference of a call with an index of so many slots from the first one without.
+    fn indexed(&self, first: &Run, prints: &[u32], slots: usize, numbers: &mut Numbers) -> Option<String> {
+        let mut index = Lent::filled(slots, |_| numbers.draw());
+        let call =
+            |table: &mut [u8], trace: &mut [u8]| numbers_indexed(self.bytes, table, trace, index.lend());
+        let run = Run::filled(call, self.lengths, filling);
+        run.difference_from(first, &self.report, self.expected)
+            .or_else(|| self.index_difference(&index, slots, prints))
     }
 
-    /// The first place that differs.
-    fn place_difference(&self, report: &Report, expected: &Expected) -> Option<String> {
-        let (threads, locations) = expected.sizes();
-        let size = expected.place_size();
-        let places = self.table.front(report.places.len() * size).chunks(size);
-        places.zip(&report.places).enumerate().find_map(|(place, (bytes, expected))| {
-            let what = |found: &dyn std::fmt::Debug| {
-                format!("place {}: expected {expected:?}, found {found:?} in {bytes:?}", place + 1)
-            };
-            let Some(found) = decode(bytes, threads, locations) else {
-                return Some(what(&"bytes that are no place"));
-            };
-            let same = found.from == expected.from
-                && found.by == expected.by
-                && found.fingerprint == found.due
-                && found.situation == *expected.situation;
-            (!same).then(|| what(&found))
-        })
+    /// Where the index is not what is due: as it was where the program is refused, else that of the places.
+    fn index_difference(&self, index: &Lent<u64>, slots: usize, prints: &[u32]) -> Option<String> {
+        let due = match self.expected.search() {
+            Some(_) => index_of(slots, prints),
+            None => Vec::new(),
+        };
+        let found = index.front(due.len());
+        let wrong = (0..due.len()).find(|&slot| found[slot] != due[slot]);
+        let wrong = wrong.map(|slot| format!("slot {slot}: expected {}, found {}", due[slot], found[slot]));
+        wrong.or_else(|| Some(format!("slot {} changed", index.changed(due.len())?)))
     }
 }

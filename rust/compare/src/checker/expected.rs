@@ -31,6 +31,11 @@ impl Expected {
         self.program.as_ref().ok().map(|(_, search)| search)
     }
 
+    /// How many places the search found, none if the program is refused.
+    pub fn places(&self) -> usize {
+        self.search().map_or(0, |search| search.places.len())
+    }
+
     /// The size of a place, of no thread and no location if the program is refused.
     pub fn place_size(&self) -> usize {
         let (threads, locations) = self.sizes();

@@ -9,8 +9,8 @@ use second::{Answer, Ending, Program};
 use super::difference::difference;
 use super::expected::{Expected, Lengths};
 
-/// The search of a random program ends at so many places: the proved one compares each with all before it. The models
-/// have up to some 30,000.
+/// The search of a random program ends at so many places: without an index the proved one compares each with all before
+/// it. The models have up to some 30,000.
 const PLACES: usize = 200;
 
 /// A random program for the comparison.
@@ -46,6 +46,15 @@ pub fn lengths(numbers: &mut Numbers, expected: &Expected) -> Vec<Lengths> {
     all
 }
 
+/// How many lengths of an index there are, no more than lengths of a table.
+const INDEXES: usize = 5;
+
+/// Lengths of an index for so many places: none, one that takes no place, one that takes three, one that takes some or
+/// all, and one that has room for more.
+pub fn index_lengths(numbers: &mut Numbers, places: usize) -> [usize; INDEXES] {
+    [0, 1, 7, numbers.below(2 * places + 1), 2 * places + 1 + numbers.below(100)]
+}
+
 /// How often each answer was compared.
 #[derive(Clone, Copy, Debug, Default, PartialEq, Eq)]
 pub struct Tally {
@@ -63,12 +72,14 @@ pub struct Tally {
     pub refused: usize,
     /// Places compared, once for each time that they were due.
     pub places: usize,
+    /// Calls with an index, and indexes compared.
+    pub indexed: usize,
 }
 
 impl Display for Tally {
     fn fmt(&self, to: &mut Formatter) -> fmt::Result {
-        let Tally { programs, robust, not_robust, full, short_trace, refused, places } = self;
-        write!(to, "{programs} programs, {places} places; answers: ")?;
+        let Tally { programs, robust, not_robust, full, short_trace, refused, places, indexed } = self;
+        write!(to, "{programs} programs, {places} places, {indexed} indexes; answers: ")?;
         write!(to, "RB {robust}, NR {not_robust}, FU {full}, 10 {short_trace}, 1 to 9 {refused}")
     }
 }
@@ -86,17 +97,23 @@ impl Tally {
     }
 }
 
-/// Compares the two checkers on program bytes with several lengths, or says how they differ.
+/// Compares the two checkers on program bytes with several lengths, or says how they differ. Each length of an index
+/// comes with another table and trace; what is refused at once is compared with all of them.
 pub fn compare_program(bytes: &[u8], numbers: &mut Numbers, tally: &mut Tally) -> Result<(), String> {
     let expected = Expected::new(bytes, PLACES);
+    let is_refused = expected.search().is_none();
+    let start = numbers.below(INDEXES);
     tally.programs += 1;
-    for lengths in lengths(numbers, &expected) {
-        if let Some(difference) = difference(bytes, &expected, lengths) {
+    for (turn, lengths) in lengths(numbers, &expected).into_iter().enumerate() {
+        let all = index_lengths(numbers, expected.places());
+        let indexes = if is_refused { &all[..] } else { &all[(start + turn) % INDEXES..][..1] };
+        if let Some(difference) = difference(bytes, &expected, lengths, indexes, numbers) {
             let text = disassemble(bytes).unwrap_or_else(|number| format!("refused by check {number}"));
             return Err(format!("{difference}\nwith {lengths:?} for {bytes:?}\n{text}"));
         }
         let report = expected.report(lengths);
         tally.note(&report.answer, report.places.len());
+        tally.indexed += indexes.len();
     }
     Ok(())
 }
