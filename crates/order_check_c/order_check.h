@@ -112,14 +112,17 @@ void order_check(const uint8_t *program, size_t program_len, uint8_t *table, siz
 
 /*
  * The same with a lent index, for large tables: its answer, and what it leaves in table and trace, are those of
- * order_check for every index of every length.
+ * order_check for every index of every length, also 0.
  *
- * index, index_len: slots in which the search keeps where each fingerprint stands. Places up to half of its length are
- *     found by it; those after them are compared one by one, so that with twice as many slots as there will be places the
- *     time grows with the number of places and no faster. Without an index, as in order_check, it grows with its square.
- *     What the index held before changes nothing. It stays as it is where the bytes are no program.
+ * index, index_len: slots by which the search finds the places of a fingerprint. As many places as half of its length are
+ *     found by it, the first ones; those after them are compared one by one. With twice as many slots as there will be
+ *     places the time for a place does not grow with their number, as far as their fingerprints are spread; without an
+ *     index, as in order_check, it does. What the index held before changes nothing.
+ *     It stays as it is where the bytes are no program. Else all of it is written: 0 in an empty slot, and for a place
+ *     its fingerprint times 2^32 plus its number, from 1.
  *
- * All that is said of table above holds for index too, which is aligned as uint64_t is. It may be of length 0.
+ * All that is said above of whose memory it is holds for index too: it is not null, it is aligned as uint64_t is, it does
+ * not overlap the others, and nothing else uses it before the call returns.
  */
 void order_check_indexed(const uint8_t *program, size_t program_len, uint8_t *table, size_t table_len, uint8_t *trace,
                          size_t trace_len, uint64_t *index, size_t index_len, uint64_t answer[ORDER_FIELDS]);
