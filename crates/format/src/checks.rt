@@ -5,7 +5,8 @@ ghost use mathlib.Core.Path.{_≡_};
 ghost use Prim.Native.Nat.{_+_, _≤_};
 ghost use lib.ListN.{length, drop};
 ghost use Rattle.program_bytes.specs.Ops.{isOp, opAt};
-ghost use Rattle.program_bytes.specs.Format.{startsWith, isRecord, isOperand, whenUsed, zeroUnlessUsed, usesTarget, isTarget, isRegAndRest, areOperands, fieldsToLine};
+ghost use Rattle.program_bytes.specs.Format.{startsWith, isRecord, isOperand, whenUsed, zeroUnlessUsed};
+ghost use Rattle.program_bytes.specs.Format.{usesTarget, isTarget, isRegAndRest, areOperands, fieldsToLine};
 ghost use Rattle.format.specs.Inner.{makeRow, rowOf, targetMeans, checkOf};
 
 // The fields of a line's record, as they stand in the bytes.

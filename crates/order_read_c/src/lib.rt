@@ -5,7 +5,8 @@ use format::Operand;
 ghost use mathlib.Core.Path.{_≡_};
 ghost use Rattle.program_bytes.specs.Format.{readProgram};
 ghost use Rattle.format.specs.Answer.{operandMeans, lineMeans};
-ghost use Rattle.order_read_c.specs.Answer.{numberOf, headerAnswer, noOperand, operandAnswer, makeLine, noLine, lineFields, lineAnswer};
+ghost use Rattle.order_read_c.specs.Answer.{numberOf, headerAnswer, noOperand, operandAnswer, makeLine};
+ghost use Rattle.order_read_c.specs.Answer.{noLine, lineFields, lineAnswer};
 
 // The answer of order_read: the number of the failed check, or 0 and the program's header.
 #[repr(C)]

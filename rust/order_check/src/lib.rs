@@ -47,8 +47,9 @@ pub fn check(program: &[u8], table: &mut [u8], trace: &mut [u8]) -> Report {
 /// length and whatever it held before.
 ///
 /// Places up to half as many as the index has slots are found by it; those after them are compared one by one. With two
-/// slots for each place that there will be, the time grows with the number of places and no faster. A call clears the
-/// whole index, except where the program is [refused](Report::Refused): that leaves it as it was.
+/// slots for each place that there will be, the time for a place hardly grows with their number, as far as their
+/// fingerprints are spread. A call clears the whole index, except where the program is [refused](Report::Refused): that
+/// leaves it as it was.
 ///
 /// # Panics
 ///

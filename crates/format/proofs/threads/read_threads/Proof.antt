@@ -30,7 +30,10 @@ loop-holds c =
       search needs,
       search needs,
       begins (a .t) (a .l) (a .k) (now (a .bytes)) _
-          (ap (λ (h : Header). let r : Header = record { threads = a .t; locations = a .l; values = a .k; starts = h .starts; counts = h .counts } in r) (c .no-header .ensures)),
+          (ap (λ (h : Header).
+          let r : Header =
+          record { threads = a .t; locations = a .l; values = a .k; starts = h .starts; counts = h .counts } in
+          r) (c .no-header .ensures)),
     )
 
 read-thread-requires : tie.Need-read-thread-requires Inv-loop μ-loop
