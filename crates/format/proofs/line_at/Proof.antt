@@ -37,9 +37,6 @@ fields-at-requires c κs =
     let a = s .args in
     line-fits (now (a .bytes)) (a .header) (s .pre .0) (a .t) (a .i) (s .pre .1 .0) (s .pre .1 .1)
 
-decode-requires : tie.Need-decode-requires
-decode-requires c κs = search needs
-
 returns : tie.Need-returns
 returns c =
     let s = c .before .before .before .before in
@@ -50,4 +47,4 @@ returns c =
 pub line-at-spec : {M : Type 1} → statement M
 line-at-spec =
     tie.close
-    (tie.spec mul-at array-read-at mul-at-2 add-at fields-at-requires decode-requires returns)
+    (tie.spec mul-at array-read-at mul-at-2 add-at fields-at-requires (λ c κs. search needs) returns)

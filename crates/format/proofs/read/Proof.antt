@@ -12,15 +12,6 @@ use borrow.Author.Needs.{needs, zero≤}
 use Rattle.format.proofs.read.Statement.{statement}
 use Rattle.format.proofs.read.Tie as tie
 
-slice-aggregate-is-record : tie.Need-slice-aggregate-is-record
-slice-aggregate-is-record c = search needs
-
-is-record-requires : tie.Need-is-record-requires
-is-record-requires c κs = search needs
-
-refused-requires : tie.Need-refused-requires
-refused-requires c κs = search needs
-
 returns : tie.Need-returns
 unfolding readProgram check reading
 returns c =
@@ -51,12 +42,6 @@ shared-slice-read-k c =
           (c .before .before .before .before .before .before .before .args .bytes)) 0 5 zero≤ (sym
           (c .before .before .before .before .is-record .ensures) ∙ not-false _ (c .before .before .before .if1 .left)),
     )
-
-are-in-range-requires : tie.Need-are-in-range-requires
-are-in-range-requires c κs = search needs
-
-refused-requires-2 : tie.Need-refused-requires-2
-refused-requires-2 c κs = search needs
 
 returns-2 : tie.Need-returns-2
 unfolding readProgram check reading
@@ -96,15 +81,15 @@ pub read-spec : {M : Type 1} → statement M
 read-spec =
     tie.close
     (tie.spec
-    slice-aggregate-is-record
-    is-record-requires
-    refused-requires
+    (λ c. search needs)
+    (λ c κs. search needs)
+    (λ c κs. search needs)
     returns
     shared-slice-read-t
     shared-slice-read-l
     shared-slice-read-k
-    are-in-range-requires
-    refused-requires-2
+    (λ c κs. search needs)
+    (λ c κs. search needs)
     returns-2
     read-threads-requires
     returns-3)

@@ -7,13 +7,10 @@ use borrow.Author.Needs.{needs}
 use Rattle.format.proofs.refused.Statement.{statement}
 use Rattle.format.proofs.refused.Tie as tie
 
-no-header-requires : tie.Need-no-header-requires
-no-header-requires c κs = search needs
-
 returns : tie.Need-returns
 returns c =
     ap (λ (h : Header). let r : Reading = record { check = Failed (c .before .args .number); header = h } in r)
     (c .no-header .ensures)
 
 pub refused-spec : {M : Type 1} → statement M
-refused-spec = tie.close (tie.spec no-header-requires returns)
+refused-spec = tie.close (tie.spec (λ c κs. search needs) returns)

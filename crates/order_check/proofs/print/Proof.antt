@@ -3,24 +3,6 @@ use borrow.Author.Needs.{needs}
 use Rattle.order_check.proofs.print.Statement.{statement}
 use Rattle.order_check.proofs.print.Tie as tie
 
-check-indexed-requires : tie.Need-check-indexed-requires
-check-indexed-requires c κs = search needs
-
-text-requires : tie.Need-text-requires
-text-requires c κs = search needs
-
-same-length : tie.Need-same-length
-same-length c = search needs
-
-same-length-2 : tie.Need-same-length-2
-same-length-2 c = search needs
-
-same-length-3 : tie.Need-same-length-3
-same-length-3 c = search needs
-
-same-length-4 : tie.Need-same-length-4
-same-length-4 c = search needs
-
 returns : tie.Need-returns
 returns c =
     let at-text = c .before .before in
@@ -44,10 +26,10 @@ pub print-spec : {M : Type 1} → statement M
 print-spec =
     tie.close
     (tie.spec
-    check-indexed-requires
-    text-requires
-    same-length
-    same-length-2
-    same-length-3
-    same-length-4
+    (λ c κs. search needs)
+    (λ c κs. search needs)
+    (λ c. search needs)
+    (λ c. search needs)
+    (λ c. search needs)
+    (λ c. search needs)
     returns)

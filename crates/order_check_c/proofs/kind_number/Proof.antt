@@ -6,17 +6,8 @@ use Rattle.order_check_c.proofs.kind_number.Reads as reads
 use Rattle.order_check_c.proofs.kind_number.Lts as lts
 
 -- src/lib.rt:15:23
-enum-told : tie.Need-enum-told
-enum-told c = search needs
-
 -- src/lib.rt:16:24
-enum-told-2 : tie.Need-enum-told-2
-enum-told-2 c = search needs
-
 -- src/lib.rt:17:25
-enum-told-3 : tie.Need-enum-told-3
-enum-told-3 c = search needs
-
 -- src/lib.rt:11:1
 returns : tie.Need-returns
 unfolding kindNumber
@@ -34,4 +25,4 @@ returns-3 c = rw (c .enum-told3 .given .1)
 
 pub kind-number-spec : {M : Type 1} → statement M
 kind-number-spec =
-    tie.close (tie.spec enum-told enum-told-2 enum-told-3 returns returns-2 returns-3)
+    tie.close (tie.spec (λ c. search needs) (λ c. search needs) (λ c. search needs) returns returns-2 returns-3)

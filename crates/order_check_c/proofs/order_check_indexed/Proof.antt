@@ -2,21 +2,6 @@ use borrow.Author.Needs.{needs}
 use Rattle.order_check_c.proofs.order_check_indexed.Statement.{statement}
 use Rattle.order_check_c.proofs.order_check_indexed.Tie as tie
 
-check-indexed-requires : tie.Need-check-indexed-requires
-check-indexed-requires c κs = search needs
-
-numbers-of-requires : tie.Need-numbers-of-requires
-numbers-of-requires c κs = search needs
-
-same-length : tie.Need-same-length
-same-length c = search needs
-
-same-length-2 : tie.Need-same-length-2
-same-length-2 c = search needs
-
-same-length-3 : tie.Need-same-length-3
-same-length-3 c = search needs
-
 returns : tie.Need-returns
 returns c =
     let at-check-indexed = c .before .before .before .before .before .before .before in
@@ -40,9 +25,9 @@ pub order-check-indexed-spec : {M : Type 1} → statement M
 order-check-indexed-spec =
     tie.close
     (tie.spec
-    check-indexed-requires
-    numbers-of-requires
-    same-length
-    same-length-2
-    same-length-3
+    (λ c κs. search needs)
+    (λ c κs. search needs)
+    (λ c. search needs)
+    (λ c. search needs)
+    (λ c. search needs)
     returns)

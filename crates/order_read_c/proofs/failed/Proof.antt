@@ -4,15 +4,6 @@ use borrow.Author.Needs.{needs}
 use Rattle.order_read_c.proofs.failed.Statement.{statement}
 use Rattle.order_read_c.proofs.failed.Tie as tie
 
-enum-told : tie.Need-enum-told
-enum-told c = search needs
-
-enum-known-check : tie.Need-enum-known-check
-enum-known-check c = search needs
-
-cast-result : tie.Need-cast-result
-cast-result c = search needs
-
 returns : tie.Need-returns
 unfolding numberOf
 returns c =
@@ -24,4 +15,4 @@ returns-2 c =
     rw (c .before .check .given .1)
 
 pub failed-spec : {M : Type 1} → statement M
-failed-spec = tie.close (tie.spec enum-told enum-known-check cast-result returns returns-2)
+failed-spec = tie.close (tie.spec (λ c. search needs) (λ c. search needs) (λ c. search needs) returns returns-2)

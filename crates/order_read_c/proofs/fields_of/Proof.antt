@@ -6,114 +6,6 @@ use borrow.Author.Needs.{needs}
 use Rattle.order_read_c.proofs.fields_of.Statement.{statement}
 use Rattle.order_read_c.proofs.fields_of.Tie as tie
 
-no-operand-requires : tie.Need-no-operand-requires
-no-operand-requires c κs = search needs
-
-enum-known-line : tie.Need-enum-known-line
-enum-known-line c = search needs
-
-operand-of-requires : tie.Need-operand-of-requires
-operand-of-requires c κs = search needs
-
-operand-of-requires-2 : tie.Need-operand-of-requires-2
-operand-of-requires-2 c κs = search needs
-
-make-line-requires : tie.Need-make-line-requires
-make-line-requires c κs = search needs
-
-enum-known-line-2 : tie.Need-enum-known-line-2
-enum-known-line-2 c = search needs
-
-operand-of-requires-3 : tie.Need-operand-of-requires-3
-operand-of-requires-3 c κs = search needs
-
-operand-of-requires-4 : tie.Need-operand-of-requires-4
-operand-of-requires-4 c κs = search needs
-
-make-line-requires-2 : tie.Need-make-line-requires-2
-make-line-requires-2 c κs = search needs
-
-enum-known-line-3 : tie.Need-enum-known-line-3
-enum-known-line-3 c = search needs
-
-operand-of-requires-5 : tie.Need-operand-of-requires-5
-operand-of-requires-5 c κs = search needs
-
-operand-of-requires-6 : tie.Need-operand-of-requires-6
-operand-of-requires-6 c κs = search needs
-
-make-line-requires-3 : tie.Need-make-line-requires-3
-make-line-requires-3 c κs = search needs
-
-enum-known-line-4 : tie.Need-enum-known-line-4
-enum-known-line-4 c = search needs
-
-cast-make-line : tie.Need-cast-make-line
-cast-make-line c = search needs
-
-operand-of-requires-7 : tie.Need-operand-of-requires-7
-operand-of-requires-7 c κs = search needs
-
-make-line-requires-4 : tie.Need-make-line-requires-4
-make-line-requires-4 c κs = search needs
-
-enum-known-line-5 : tie.Need-enum-known-line-5
-enum-known-line-5 c = search needs
-
-operand-of-requires-8 : tie.Need-operand-of-requires-8
-operand-of-requires-8 c κs = search needs
-
-make-line-requires-5 : tie.Need-make-line-requires-5
-make-line-requires-5 c κs = search needs
-
-enum-known-line-6 : tie.Need-enum-known-line-6
-enum-known-line-6 c = search needs
-
-make-line-requires-6 : tie.Need-make-line-requires-6
-make-line-requires-6 c κs = search needs
-
-enum-known-line-7 : tie.Need-enum-known-line-7
-enum-known-line-7 c = search needs
-
-operand-of-requires-9 : tie.Need-operand-of-requires-9
-operand-of-requires-9 c κs = search needs
-
-make-line-requires-7 : tie.Need-make-line-requires-7
-make-line-requires-7 c κs = search needs
-
-enum-known-line-8 : tie.Need-enum-known-line-8
-enum-known-line-8 c = search needs
-
-operand-of-requires-10 : tie.Need-operand-of-requires-10
-operand-of-requires-10 c κs = search needs
-
-operand-of-requires-11 : tie.Need-operand-of-requires-11
-operand-of-requires-11 c κs = search needs
-
-make-line-requires-8 : tie.Need-make-line-requires-8
-make-line-requires-8 c κs = search needs
-
-enum-known-line-9 : tie.Need-enum-known-line-9
-enum-known-line-9 c = search needs
-
-operand-of-requires-12 : tie.Need-operand-of-requires-12
-operand-of-requires-12 c κs = search needs
-
-make-line-requires-9 : tie.Need-make-line-requires-9
-make-line-requires-9 c κs = search needs
-
-enum-known-line-10 : tie.Need-enum-known-line-10
-enum-known-line-10 c = search needs
-
-operand-of-requires-13 : tie.Need-operand-of-requires-13
-operand-of-requires-13 c κs = search needs
-
-operand-of-requires-14 : tie.Need-operand-of-requires-14
-operand-of-requires-14 c κs = search needs
-
-make-line-requires-10 : tie.Need-make-line-requires-10
-make-line-requires-10 c κs = search needs
-
 returns : tie.Need-returns
 unfolding lineFields lineMeans
 returns c =
@@ -207,42 +99,42 @@ pub fields-of-spec : {M : Type 1} → statement M
 fields-of-spec =
     tie.close
     (tie.spec
-    no-operand-requires
-    enum-known-line
-    operand-of-requires
-    operand-of-requires-2
-    make-line-requires
-    enum-known-line-2
-    operand-of-requires-3
-    operand-of-requires-4
-    make-line-requires-2
-    enum-known-line-3
-    operand-of-requires-5
-    operand-of-requires-6
-    make-line-requires-3
-    enum-known-line-4
-    cast-make-line
-    operand-of-requires-7
-    make-line-requires-4
-    enum-known-line-5
-    operand-of-requires-8
-    make-line-requires-5
-    enum-known-line-6
-    make-line-requires-6
-    enum-known-line-7
-    operand-of-requires-9
-    make-line-requires-7
-    enum-known-line-8
-    operand-of-requires-10
-    operand-of-requires-11
-    make-line-requires-8
-    enum-known-line-9
-    operand-of-requires-12
-    make-line-requires-9
-    enum-known-line-10
-    operand-of-requires-13
-    operand-of-requires-14
-    make-line-requires-10
+    (λ c κs. search needs)
+    (λ c. search needs)
+    (λ c κs. search needs)
+    (λ c κs. search needs)
+    (λ c κs. search needs)
+    (λ c. search needs)
+    (λ c κs. search needs)
+    (λ c κs. search needs)
+    (λ c κs. search needs)
+    (λ c. search needs)
+    (λ c κs. search needs)
+    (λ c κs. search needs)
+    (λ c κs. search needs)
+    (λ c. search needs)
+    (λ c. search needs)
+    (λ c κs. search needs)
+    (λ c κs. search needs)
+    (λ c. search needs)
+    (λ c κs. search needs)
+    (λ c κs. search needs)
+    (λ c. search needs)
+    (λ c κs. search needs)
+    (λ c. search needs)
+    (λ c κs. search needs)
+    (λ c κs. search needs)
+    (λ c. search needs)
+    (λ c κs. search needs)
+    (λ c κs. search needs)
+    (λ c κs. search needs)
+    (λ c. search needs)
+    (λ c κs. search needs)
+    (λ c κs. search needs)
+    (λ c. search needs)
+    (λ c κs. search needs)
+    (λ c κs. search needs)
+    (λ c κs. search needs)
     returns
     returns-2
     returns-3

@@ -6,15 +6,9 @@ use borrow.Author.Needs.{needs}
 use Rattle.order_read_c.proofs.no_line.Statement.{statement}
 use Rattle.order_read_c.proofs.no_line.Tie as tie
 
-no-operand-requires : tie.Need-no-operand-requires
-no-operand-requires c κs = search needs
-
-make-line-requires : tie.Need-make-line-requires
-make-line-requires c κs = search needs
-
 returns : tie.Need-returns
 returns c =
     c .make-line .ensures ∙ ap (λ (x : OperandAnswer). makeLine 0 0 0 x x) (c .before .no-operand .ensures)
 
 pub no-line-spec : {M : Type 1} → statement M
-no-line-spec = tie.close (tie.spec no-operand-requires make-line-requires returns)
+no-line-spec = tie.close (tie.spec (λ c κs. search needs) (λ c κs. search needs) returns)

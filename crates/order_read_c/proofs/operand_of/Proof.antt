@@ -5,15 +5,6 @@ use borrow.Author.Needs.{needs}
 use Rattle.order_read_c.proofs.operand_of.Statement.{statement}
 use Rattle.order_read_c.proofs.operand_of.Tie as tie
 
-enum-known-x : tie.Need-enum-known-x
-enum-known-x c = search needs
-
-cast-t5 : tie.Need-cast-t5
-cast-t5 c = search needs
-
-enum-known-x-2 : tie.Need-enum-known-x-2
-enum-known-x-2 c = search needs
-
 returns : tie.Need-returns
 unfolding operandAnswer operandMeans
 returns c =
@@ -25,4 +16,4 @@ returns-2 c =
     rw (c .before .x2 .given .1)
 
 pub operand-of-spec : {M : Type 1} → statement M
-operand-of-spec = tie.close (tie.spec enum-known-x cast-t5 enum-known-x-2 returns returns-2)
+operand-of-spec = tie.close (tie.spec (λ c. search needs) (λ c. search needs) (λ c. search needs) returns returns-2)

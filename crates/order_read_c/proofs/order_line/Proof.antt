@@ -11,21 +11,6 @@ use borrow.Author.Needs.{needs}
 use Rattle.order_read_c.proofs.order_line.Statement.{statement}
 use Rattle.order_read_c.proofs.order_line.Tie as tie
 
-read-requires : tie.Need-read-requires
-read-requires c κs = search needs
-
-enum-told : tie.Need-enum-told
-enum-told c = search needs
-
-no-line-requires : tie.Need-no-line-requires
-no-line-requires c κs = search needs
-
-enum-told-2 : tie.Need-enum-told-2
-enum-told-2 c = search needs
-
-no-line-requires-2 : tie.Need-no-line-requires-2
-no-line-requires-2 c κs = search needs
-
 returns : tie.Need-returns
 returns c =
     let a = c .before .before .before .before .before .before .before .before .before .args in
@@ -59,9 +44,6 @@ array-read-if2 c =
       accepted-within (now (a .program)) (r .result .header) is .few-threads,
     )
 
-no-line-requires-3 : tie.Need-no-line-requires-3
-no-line-requires-3 c κs = search needs
-
 returns-2 : tie.Need-returns-2
 returns-2 c =
     let a = c .before .before .before .before .before .before .before .before .before .before .args in
@@ -85,9 +67,6 @@ line-at-requires c κs =
       ),
     )
 
-fields-of-requires : tie.Need-fields-of-requires
-fields-of-requires c κs = search needs
-
 returns-3 : tie.Need-returns-3
 returns-3 c =
     let a = c .before .before .before .before .before .before .before .args in
@@ -110,17 +89,17 @@ pub order-line-spec : {M : Type 1} → statement M
 order-line-spec =
     tie.close
     (tie.spec
-    read-requires
-    enum-told
-    no-line-requires
-    enum-told-2
-    no-line-requires-2
+    (λ c κs. search needs)
+    (λ c. search needs)
+    (λ c κs. search needs)
+    (λ c. search needs)
+    (λ c κs. search needs)
     returns
     mul-if2
     array-read-if2
-    no-line-requires-3
+    (λ c κs. search needs)
     returns-2
     line-at-requires
-    fields-of-requires
+    (λ c κs. search needs)
     returns-3
     returns-4)

@@ -8,12 +8,6 @@ use borrow.Author.Needs.{needs}
 use Rattle.order_read_c.proofs.order_read.Statement.{statement}
 use Rattle.order_read_c.proofs.order_read.Tie as tie
 
-read-requires : tie.Need-read-requires
-read-requires c κs = search needs
-
-failed-requires : tie.Need-failed-requires
-failed-requires c κs = search needs
-
 returns : tie.Need-returns
 returns c =
     let r = c .before .before .before .before .read in
@@ -21,4 +15,4 @@ returns c =
     (c .before .before .before .before .before .before .args .program)) (r .result) (r .ensures)
 
 pub order-read-spec : {M : Type 1} → statement M
-order-read-spec = tie.close (tie.spec read-requires failed-requires returns)
+order-read-spec = tie.close (tie.spec (λ c κs. search needs) (λ c κs. search needs) returns)

@@ -6,12 +6,6 @@ use borrow.Author.Needs.{needs}
 use Rattle.format.proofs.checks.are_operands.Statement.{statement}
 use Rattle.format.proofs.checks.are_operands.Tie as tie
 
-is-operand-requires : tie.Need-is-operand-requires
-is-operand-requires c κs = search needs
-
-when-used-requires : tie.Need-when-used-requires
-when-used-requires c κs = search needs
-
 returns : tie.Need-returns
 returns c =
     let s = c .before .before .before in
@@ -19,12 +13,6 @@ returns c =
       ← c .before .before .is-operand .ensures,
       (sym (c .before .when-used .ensures) ∙ not-true _ (c .if1 .taken)),
     ))
-
-is-operand-requires-2 : tie.Need-is-operand-requires-2
-is-operand-requires-2 c κs = search needs
-
-when-used-requires-2 : tie.Need-when-used-requires-2
-when-used-requires-2 c κs = search needs
 
 returns-2 : tie.Need-returns-2
 returns-2 c =
@@ -41,9 +29,9 @@ pub are-operands-spec : {M : Type 1} → statement M
 are-operands-spec =
     tie.close
     (tie.spec
-    is-operand-requires
-    when-used-requires
+    (λ c κs. search needs)
+    (λ c κs. search needs)
     returns
-    is-operand-requires-2
-    when-used-requires-2
+    (λ c κs. search needs)
+    (λ c κs. search needs)
     returns-2)

@@ -10,19 +10,10 @@ use borrow.Author.Needs.{needs}
 use Rattle.format.proofs.checks.check_fields.Statement.{statement}
 use Rattle.format.proofs.checks.check_fields.Tie as tie
 
-is-op-requires : tie.Need-is-op-requires
-is-op-requires c κs = search needs
-
 returns : tie.Need-returns
 unfolding fieldsToLine check checkOf
 returns c =
     rw (sym (c .before .is-op .ensures) ∙ not-true _ (c .if1 .taken))
-
-row-of-requires : tie.Need-row-of-requires
-row-of-requires c κs = search needs
-
-is-reg-and-rest-requires : tie.Need-is-reg-and-rest-requires
-is-reg-and-rest-requires c κs = search needs
 
 returns-2 : tie.Need-returns-2
 unfolding fieldsToLine check checkOf
@@ -33,9 +24,6 @@ returns-2 c =
       (sym (c .before .is-reg-and-rest .ensures) ∙ not-true _
           (c .if2 .taken)),
     )
-
-is-target-requires : tie.Need-is-target-requires
-is-target-requires c κs = search needs
 
 returns-3 : tie.Need-returns-3
 unfolding fieldsToLine check checkOf
@@ -52,9 +40,6 @@ returns-3 c =
           (c .before .before .before .before .row-of .ensures))) ∙ (sym (c .before .is-target .ensures) ∙ not-true _
           (c .if3 .taken))),
     )
-
-are-operands-requires : tie.Need-are-operands-requires
-are-operands-requires c κs = search needs
 
 returns-4 : tie.Need-returns-4
 unfolding fieldsToLine check checkOf
@@ -96,13 +81,13 @@ pub check-fields-spec : {M : Type 1} → statement M
 check-fields-spec =
     tie.close
     (tie.spec
-    is-op-requires
+    (λ c κs. search needs)
     returns
-    row-of-requires
-    is-reg-and-rest-requires
+    (λ c κs. search needs)
+    (λ c κs. search needs)
     returns-2
-    is-target-requires
+    (λ c κs. search needs)
     returns-3
-    are-operands-requires
+    (λ c κs. search needs)
     returns-4
     returns-5)

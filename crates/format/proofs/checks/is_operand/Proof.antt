@@ -15,13 +15,10 @@ unfolding isOperand
 returns-2 c =
     rw (le-ltb _ _ (c .before .if1 .left), lt-leb _ _ (c .if2 .taken))
 
-add-result : tie.Need-add-result
-add-result c = search needs
-
 returns-3 : tie.Need-returns-3
 unfolding isOperand
 returns-3 c =
     rw (le-ltb _ _ (c .before .if1 .left), le-leb _ _ (c .if2 .left))
 
 pub is-operand-spec : {M : Type 1} → statement M
-is-operand-spec = tie.close (tie.spec returns returns-2 add-result returns-3)
+is-operand-spec = tie.close (tie.spec returns returns-2 (λ c. search needs) returns-3)

@@ -6,16 +6,10 @@ use borrow.Author.Needs.{needs}
 use Rattle.format.proofs.checks.is_record.Statement.{statement}
 use Rattle.format.proofs.checks.is_record.Tie as tie
 
-sub-if1 : tie.Need-sub-if1
-sub-if1 c = search needs
-
 returns : tie.Need-returns
 returns c =
     let a = c .before .before .before .args in
     sym (too-short (now (a .mark)) (now (a .bytes)) (a .at) (a .size) (c .if1 .taken))
-
-is-marked-requires : tie.Need-is-marked-requires
-is-marked-requires c κs = search needs
 
 returns-2 : tie.Need-returns-2
 returns-2 c =
@@ -24,4 +18,4 @@ returns-2 c =
     (c .before .if1 .left))
 
 pub is-record-spec : {M : Type 1} → statement M
-is-record-spec = tie.close (tie.spec sub-if1 returns is-marked-requires returns-2)
+is-record-spec = tie.close (tie.spec (λ c. search needs) returns (λ c κs. search needs) returns-2)

@@ -6,20 +6,11 @@ use borrow.Author.Needs.{needs}
 use Rattle.format.proofs.checks.is_reg_and_rest.Statement.{statement}
 use Rattle.format.proofs.checks.is_reg_and_rest.Tie as tie
 
-cast-when-used : tie.Need-cast-when-used
-cast-when-used c = search needs
-
-when-used-requires : tie.Need-when-used-requires
-when-used-requires c κs = search needs
-
 returns : tie.Need-returns
 returns c =
     let s = c .before .before .before in
     sym (five-tests (s .args .r) (s .args .f) (s .pre) ∙ rw (sym (c .before .when-used .ensures) ∙ not-true _
     (c .if1 .taken)))
-
-zero-unless-used-requires : tie.Need-zero-unless-used-requires
-zero-unless-used-requires c κs = search needs
 
 returns-2 : tie.Need-returns-2
 returns-2 c =
@@ -30,12 +21,6 @@ returns-2 c =
       (sym (c .before .zero-unless-used .ensures) ∙ not-true _
           (c .if2 .taken)),
     ))
-
-uses-target-requires : tie.Need-uses-target-requires
-uses-target-requires c κs = search needs
-
-zero-unless-used-requires-2 : tie.Need-zero-unless-used-requires-2
-zero-unless-used-requires-2 c κs = search needs
 
 returns-3 : tie.Need-returns-3
 returns-3 c =
@@ -51,9 +36,6 @@ returns-3 c =
       (sym
           (c .before .zero-unless-used2 .ensures) ∙ not-true _ (c .if3 .taken)),
     ))
-
-zero-unless-used-requires-3 : tie.Need-zero-unless-used-requires-3
-zero-unless-used-requires-3 c κs = search needs
 
 returns-4 : tie.Need-returns-4
 returns-4 c =
@@ -71,9 +53,6 @@ returns-4 c =
       (sym
           (c .before .zero-unless-used3 .ensures) ∙ not-true _ (c .if4 .taken)),
     ))
-
-zero-unless-used-requires-4 : tie.Need-zero-unless-used-requires-4
-zero-unless-used-requires-4 c κs = search needs
 
 returns-5 : tie.Need-returns-5
 returns-5 c =
@@ -98,15 +77,15 @@ pub is-reg-and-rest-spec : {M : Type 1} → statement M
 is-reg-and-rest-spec =
     tie.close
     (tie.spec
-    cast-when-used
-    when-used-requires
+    (λ c. search needs)
+    (λ c κs. search needs)
     returns
-    zero-unless-used-requires
+    (λ c κs. search needs)
     returns-2
-    uses-target-requires
-    zero-unless-used-requires-2
+    (λ c κs. search needs)
+    (λ c κs. search needs)
     returns-3
-    zero-unless-used-requires-3
+    (λ c κs. search needs)
     returns-4
-    zero-unless-used-requires-4
+    (λ c κs. search needs)
     returns-5)

@@ -5,15 +5,6 @@ use borrow.Author.Needs.{needs}
 use Rattle.format.proofs.checks.is_target.Statement.{statement}
 use Rattle.format.proofs.checks.is_target.Tie as tie
 
-enum-told : tie.Need-enum-told
-enum-told c = search needs
-
-enum-told-2 : tie.Need-enum-told-2
-enum-told-2 c = search needs
-
-enum-told-3 : tie.Need-enum-told-3
-enum-told-3 c = search needs
-
 returns : tie.Need-returns
 unfolding isTarget targetMeans
 returns c =
@@ -30,4 +21,4 @@ returns-3 c =
     rw (c .enum-told3 .given .1)
 
 pub is-target-spec : {M : Type 1} → statement M
-is-target-spec = tie.close (tie.spec enum-told enum-told-2 enum-told-3 returns returns-2 returns-3)
+is-target-spec = tie.close (tie.spec (λ c. search needs) (λ c. search needs) (λ c. search needs) returns returns-2 returns-3)

@@ -7,36 +7,6 @@ use borrow.Author.Needs.{needs}
 use Rattle.format.proofs.checks.row_of.Statement.{statement}
 use Rattle.format.proofs.checks.row_of.Tie as tie
 
-uses-requires : tie.Need-uses-requires
-uses-requires c κs = search needs
-
-uses-requires-2 : tie.Need-uses-requires-2
-uses-requires-2 c κs = search needs
-
-uses-requires-3 : tie.Need-uses-requires-3
-uses-requires-3 c κs = search needs
-
-uses-requires-4 : tie.Need-uses-requires-4
-uses-requires-4 c κs = search needs
-
-uses-requires-5 : tie.Need-uses-requires-5
-uses-requires-5 c κs = search needs
-
-uses-requires-6 : tie.Need-uses-requires-6
-uses-requires-6 c κs = search needs
-
-uses-requires-7 : tie.Need-uses-requires-7
-uses-requires-7 c κs = search needs
-
-uses-requires-8 : tie.Need-uses-requires-8
-uses-requires-8 c κs = search needs
-
-uses-requires-9 : tie.Need-uses-requires-9
-uses-requires-9 c κs = search needs
-
-uses-requires-10 : tie.Need-uses-requires-10
-uses-requires-10 c κs = search needs
-
 returns : tie.Need-returns
 unfolding rowOf opAt opTable targetOf
 returns c =
@@ -104,16 +74,16 @@ pub row-of-spec : {M : Type 1} → statement M
 row-of-spec =
     tie.close
     (tie.spec
-    uses-requires
-    uses-requires-2
-    uses-requires-3
-    uses-requires-4
-    uses-requires-5
-    uses-requires-6
-    uses-requires-7
-    uses-requires-8
-    uses-requires-9
-    uses-requires-10
+    (λ c κs. search needs)
+    (λ c κs. search needs)
+    (λ c κs. search needs)
+    (λ c κs. search needs)
+    (λ c κs. search needs)
+    (λ c κs. search needs)
+    (λ c κs. search needs)
+    (λ c κs. search needs)
+    (λ c κs. search needs)
+    (λ c κs. search needs)
     returns
     returns-2
     returns-3

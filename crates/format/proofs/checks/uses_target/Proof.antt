@@ -5,15 +5,6 @@ use borrow.Author.Needs.{needs}
 use Rattle.format.proofs.checks.uses_target.Statement.{statement}
 use Rattle.format.proofs.checks.uses_target.Tie as tie
 
-enum-told : tie.Need-enum-told
-enum-told c = search needs
-
-enum-told-2 : tie.Need-enum-told-2
-enum-told-2 c = search needs
-
-enum-told-3 : tie.Need-enum-told-3
-enum-told-3 c = search needs
-
 returns : tie.Need-returns
 unfolding usesTarget targetMeans
 returns c =
@@ -31,4 +22,4 @@ returns-3 c =
 
 pub uses-target-spec : {M : Type 1} → statement M
 uses-target-spec =
-    tie.close (tie.spec enum-told enum-told-2 enum-told-3 returns returns-2 returns-3)
+    tie.close (tie.spec (λ c. search needs) (λ c. search needs) (λ c. search needs) returns returns-2 returns-3)

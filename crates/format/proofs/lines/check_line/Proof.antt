@@ -12,12 +12,6 @@ use borrow.Author.Needs.{needs}
 use Rattle.format.proofs.lines.check_line.Statement.{statement}
 use Rattle.format.proofs.lines.check_line.Tie as tie
 
-slice-aggregate-is-record : tie.Need-slice-aggregate-is-record
-slice-aggregate-is-record c = search needs
-
-is-record-requires : tie.Need-is-record-requires
-is-record-requires c κs = search needs
-
 returns : tie.Need-returns
 unfolding readLine check checkOf
 returns c =
@@ -28,9 +22,6 @@ fields-at-requires c κs =
     let s = c .before .before .before .before in
     record-fits markIN (now (s .args .bytes)) (s .args .at) 7 (s .pre) (sym (c .before .is-record .ensures)
     ∙ not-false _ (c .if1 .left))
-
-check-fields-requires : tie.Need-check-fields-requires
-check-fields-requires c κs = search needs
 
 returns-2 : tie.Need-returns-2
 returns-2 c =
@@ -45,9 +36,9 @@ pub check-line-spec : {M : Type 1} → statement M
 check-line-spec =
     tie.close
     (tie.spec
-    slice-aggregate-is-record
-    is-record-requires
+    (λ c. search needs)
+    (λ c κs. search needs)
     returns
     fields-at-requires
-    check-fields-requires
+    (λ c κs. search needs)
     returns-2)

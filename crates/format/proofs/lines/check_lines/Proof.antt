@@ -25,12 +25,6 @@ loop-holds : tie.Need-loop-holds Inv-loop μ-loop
 loop-holds c =
     (search needs, refl)
 
-check-line-requires : tie.Need-check-line-requires Inv-loop μ-loop
-check-line-requires c κs = search needs
-
-enum-known-line : tie.Need-enum-known-line Inv-loop μ-loop
-enum-known-line c = search needs
-
 returns : tie.Need-returns Inv-loop μ-loop
 returns c =
     let a = c .before .before .before .before .before .before .before .args in
@@ -40,9 +34,6 @@ returns c =
     (sym (c .before .before .before .check-line .ensures) ∙ c .before .line .given .1))
     ∙ i .inv .1
 
-enum-told : tie.Need-enum-told Inv-loop μ-loop
-enum-told c = search needs
-
 add-next : tie.Need-add-next Inv-loop μ-loop
 add-next c =
     let a = c .before .before .before .before .before .before .args in
@@ -51,12 +42,6 @@ add-next c =
     (c .before .before .before .loop-test .taken)
     (sym (c .before .before .check-line .ensures) ∙ c .enum-told .given .1) in
     omega (arith, p .0, length-drop (i .next) (now (a .bytes)))
-
-sub-left : tie.Need-sub-left Inv-loop μ-loop
-sub-left c = search needs
-
-loop-less : tie.Need-loop-less Inv-loop μ-loop
-loop-less c = search needs
 
 loop-again : tie.Need-loop-again Inv-loop μ-loop
 loop-again c =
@@ -87,12 +72,12 @@ check-lines-spec =
     Inv-loop
     μ-loop
     loop-holds
-    check-line-requires
-    enum-known-line
+    (λ c κs. search needs)
+    (λ c. search needs)
     returns
-    enum-told
+    (λ c. search needs)
     add-next
-    sub-left
-    loop-less
+    (λ c. search needs)
+    (λ c. search needs)
     loop-again
     returns-2)

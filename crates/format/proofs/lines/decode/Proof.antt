@@ -6,18 +6,6 @@ use borrow.Author.Needs.{needs}
 use Rattle.format.proofs.lines.decode.Statement.{statement}
 use Rattle.format.proofs.lines.decode.Tie as tie
 
-cast-reg : tie.Need-cast-reg
-cast-reg c = search needs
-
-cast-target : tie.Need-cast-target
-cast-target c = search needs
-
-operand-of-requires : tie.Need-operand-of-requires
-operand-of-requires c κs = search needs
-
-operand-of-requires-2 : tie.Need-operand-of-requires-2
-operand-of-requires-2 c κs = search needs
-
 returns : tie.Need-returns
 unfolding lineMeans opAt opTable
 returns c =
@@ -88,10 +76,10 @@ pub decode-spec : {M : Type 1} → statement M
 decode-spec =
     tie.close
     (tie.spec
-    cast-reg
-    cast-target
-    operand-of-requires
-    operand-of-requires-2
+    (λ c. search needs)
+    (λ c. search needs)
+    (λ c κs. search needs)
+    (λ c κs. search needs)
     returns
     returns-2
     returns-3

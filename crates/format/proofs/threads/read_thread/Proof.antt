@@ -13,12 +13,6 @@ use borrow.Author.Needs.{needs}
 use Rattle.format.proofs.threads.read_thread.Statement.{statement}
 use Rattle.format.proofs.threads.read_thread.Tie as tie
 
-slice-aggregate-is-record : tie.Need-slice-aggregate-is-record
-slice-aggregate-is-record c = search needs
-
-is-record-requires : tie.Need-is-record-requires
-is-record-requires c κs = search needs
-
 returns : tie.Need-returns
 unfolding readThread check threadOf
 returns c =
@@ -77,12 +71,6 @@ check-lines-requires c κs =
           ∙ not-false _ (c .before .before .if1 .left)),
     )
 
-enum-told : tie.Need-enum-told
-enum-told c = search needs
-
-enum-known-lines : tie.Need-enum-known-lines
-enum-known-lines c = search needs
-
 returns-3 : tie.Need-returns-3
 returns-3 c =
     let a = c .before .before .before .before .before .before .before .before .before .args in
@@ -104,8 +92,8 @@ pub read-thread-spec : {M : Type 1} → statement M
 read-thread-spec =
     tie.close
     (tie.spec
-    slice-aggregate-is-record
-    is-record-requires
+    (λ c. search needs)
+    (λ c κs. search needs)
     returns
     add-n
     shared-slice-read-n
@@ -113,7 +101,7 @@ read-thread-spec =
     returns-2
     add-check-lines
     check-lines-requires
-    enum-told
-    enum-known-lines
+    (λ c. search needs)
+    (λ c. search needs)
     returns-3
     returns-4)

@@ -21,9 +21,6 @@ Inv-loop bytes t l k count header₀ next₀ i₀ header next i =
 abbrev μ-loop : tie.MeasureT-loop
 μ-loop bytes t l k count header₀ next₀ i₀ header next i = count - i
 
-no-header-requires : tie.Need-no-header-requires Inv-loop μ-loop
-no-header-requires c κs = search needs
-
 loop-holds : tie.Need-loop-holds Inv-loop μ-loop
 loop-holds c =
     let a = c .before .before .args in (
@@ -36,15 +33,6 @@ loop-holds c =
           r) (c .no-header .ensures)),
     )
 
-read-thread-requires : tie.Need-read-thread-requires Inv-loop μ-loop
-read-thread-requires c κs = search needs
-
-enum-known-thread : tie.Need-enum-known-thread Inv-loop μ-loop
-enum-known-thread c = search needs
-
-refused-requires : tie.Need-refused-requires Inv-loop μ-loop
-refused-requires c κs = search needs
-
 returns : tie.Need-returns Inv-loop μ-loop
 returns c =
     let a = c .before .before .before .before .before .before .before .before .before .args in
@@ -54,12 +42,6 @@ returns c =
     (a .t) (drop sizePR (now (a .bytes))))) (i .inv .2)
     (c .before .before .before .before .before .loop-test .taken)
     (sym (c .before .before .before .before .read-thread .ensures) ∙ c .before .before .thread .given .1)
-
-enum-known-thread-2 : tie.Need-enum-known-thread-2 Inv-loop μ-loop
-enum-known-thread-2 c = search needs
-
-cast-lines : tie.Need-cast-lines Inv-loop μ-loop
-cast-lines c = search needs
 
 add-header : tie.Need-add-header Inv-loop μ-loop
 add-header c =
@@ -79,12 +61,6 @@ element-write-header : tie.Need-element-write-header Inv-loop μ-loop
 element-write-header c =
     omega arith
 
-mul-header-2 : tie.Need-mul-header-2 Inv-loop μ-loop
-mul-header-2 c = search needs
-
-element-write-header-2 : tie.Need-element-write-header-2 Inv-loop μ-loop
-element-write-header-2 c = search needs
-
 add-next : tie.Need-add-next Inv-loop μ-loop
 add-next c =
     let a = c .before .before .before .before .before .before .before .before .args in
@@ -94,9 +70,6 @@ add-next c =
     (c .before .before .before .before .loop-test .taken) (i .inv .0)
     (sym (c .before .before .before .read-thread .ensures) ∙ c .before .thread2 .given .1) in
     omega (arith, p .0)
-
-mul-next : tie.Need-mul-next Inv-loop μ-loop
-mul-next c = search needs
 
 add-next-2 : tie.Need-add-next-2 Inv-loop μ-loop
 add-next-2 c =
@@ -108,12 +81,6 @@ add-next-2 c =
     (sym (c .before .before .before .read-thread .ensures) ∙ c .before .thread2 .given .1) in
     omega (arith, p .0)
 
-add-i : tie.Need-add-i Inv-loop μ-loop
-add-i c = search needs
-
-loop-less : tie.Need-loop-less Inv-loop μ-loop
-loop-less c = search needs
-
 loop-again : tie.Need-loop-again Inv-loop μ-loop
 loop-again c =
     let a = c .before .before .before .before .before .before .before .before .args in
@@ -123,9 +90,6 @@ loop-again c =
     (c .before .before .before .before .loop-test .taken) (i .inv .0)
     (sym (c .before .before .before .read-thread .ensures) ∙ c .before .thread2 .given .1) in
     (p .0, omega arith, p .1)
-
-refused-requires-2 : tie.Need-refused-requires-2 Inv-loop μ-loop
-refused-requires-2 c κs = search needs
 
 returns-2 : tie.Need-returns-2 Inv-loop μ-loop
 returns-2 c =
@@ -148,25 +112,25 @@ read-threads-spec =
     (tie.spec
     Inv-loop
     μ-loop
-    no-header-requires
+    (λ c κs. search needs)
     loop-holds
-    read-thread-requires
-    enum-known-thread
-    refused-requires
+    (λ c κs. search needs)
+    (λ c. search needs)
+    (λ c κs. search needs)
     returns
-    enum-known-thread-2
-    cast-lines
+    (λ c. search needs)
+    (λ c. search needs)
     add-header
     mul-header
     element-write-header
-    mul-header-2
-    element-write-header-2
+    (λ c. search needs)
+    (λ c. search needs)
     add-next
-    mul-next
+    (λ c. search needs)
     add-next-2
-    add-i
-    loop-less
+    (λ c. search needs)
+    (λ c. search needs)
     loop-again
-    refused-requires-2
+    (λ c κs. search needs)
     returns-2
     returns-3)

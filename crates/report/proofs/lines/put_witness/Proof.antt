@@ -5,15 +5,6 @@ use borrow.Author.Needs.{needs}
 use Rattle.report.proofs.lines.put_witness.Statement.{statement}
 use Rattle.report.proofs.lines.put_witness.Tie as tie
 
-put-run-requires : tie.Need-put-run-requires
-put-run-requires c κs = search needs
-
-put-access-requires : tie.Need-put-access-requires
-put-access-requires c κs = search needs
-
-same-length : tie.Need-same-length
-same-length c = search needs
-
 returns : tie.Need-returns
 returns c =
     let second = c .before .before in
@@ -21,4 +12,4 @@ returns c =
     put-as (line-of-first-four _ _ _ _ _ _) (put-then (first .put-run .ensures) (second .put-access .ensures))
 
 pub put-witness-spec : {M : Type 1} → statement M
-put-witness-spec = tie.close (tie.spec put-run-requires put-access-requires same-length returns)
+put-witness-spec = tie.close (tie.spec (λ c κs. search needs) (λ c κs. search needs) (λ c. search needs) returns)

@@ -4,15 +4,6 @@ use borrow.Author.Needs.{needs}
 use Rattle.report.proofs.put.put_field.Statement.{statement}
 use Rattle.report.proofs.put.put_field.Tie as tie
 
-put-byte-requires : tie.Need-put-byte-requires
-put-byte-requires c κs = search needs
-
-put-decimal-requires : tie.Need-put-decimal-requires
-put-decimal-requires c κs = search needs
-
-same-length : tie.Need-same-length
-same-length c = search needs
-
 returns : tie.Need-returns
 returns c =
     let second = c .before .before in
@@ -20,4 +11,4 @@ returns c =
     put-then (first .put-byte .ensures) (second .put-decimal .ensures)
 
 pub put-field-spec : {M : Type 1} → statement M
-put-field-spec = tie.close (tie.spec put-byte-requires put-decimal-requires same-length returns)
+put-field-spec = tie.close (tie.spec (λ c κs. search needs) (λ c κs. search needs) (λ c. search needs) returns)
