@@ -1,7 +1,7 @@
 -- A report that gives an answer has its number.
 use Prim.Native.Nat.{ℕ}
 use mathlib.Core.Path.{_≡_, refl, ap, _∙_}
-use Rattle.answers.specs.Answer.{Answer, robust, notRobust, placesFull, traceShort, turnedDown, numberOf}
+use Rattle.verdicts.specs.Answer.{Answer, robust, notRobust, placesFull, traceShort, turnedDown, numberOf}
 use Rattle.report.specs.Number.{checkNumber}
 use Rattle.report.specs.declared.Report.{Report}
 use Rattle.checker.specs.Report.{reportOf, Allowed, Answered}

@@ -1,4 +1,4 @@
--- The limits of document 01, section "Program bytes", each in one place: the constants of src/lib.rt.
+-- The limits of document 01, sections "Program bytes" and "Table", each in one place: the constants of src/lib.rt.
 use Prim.Native.Nat.{ℕ}
 
 -- "threads 1 to 8"
@@ -23,3 +23,7 @@ maxLines = 64
 -- "reg is 0 to 3"
 abbrev pub registers : ℕ
 registers = 4
+
+-- "N, the places available, .. at most 1,000,000,000"
+abbrev pub maxPlaces : ℕ
+maxPlaces = 1000000000

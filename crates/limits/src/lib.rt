@@ -21,3 +21,6 @@ pub const LINES: usize = 64;
 
 // Registers of a thread.
 pub const REGISTERS: usize = 4;
+
+// Places of a table at most.
+pub const MAX_PLACES: usize = 1000000000;

@@ -12,7 +12,9 @@ use Rattle.relations.proofs.Decide.{dec-map, dec-and, dec-not, dec-none, dec-so
 use Rattle.relations.proofs.Decide.{dec-empty}
 use Rattle.lists.proofs.Ends.{Snoc, empty-or-snoc, same-last, split-not-nil}
 use Rattle.program.specs.Program.{Program}
-use Rattle.program.specs.Thread.{Action, Kind, Read, Write, Update, kindOf, Effect, NextLine, ended, local, writing}
+use Rattle.program.specs.Thread.{Action, kindOf, Effect, NextLine, ended, local, writing}
+use Rattle.program.specs.declared.Kind.{Kind}
+use Rattle.program.specs.declared.Kind.the-variants.{Read, Write, Update}
 use Rattle.program.specs.Thread.{access, nextLine}
 use Rattle.model.specs.Graph.{Id, Graph, order, threadEvents, valueOf}
 use Rattle.model.specs.Order.{HappensBefore, ScOrder}

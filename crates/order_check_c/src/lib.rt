@@ -6,7 +6,7 @@ use witness::Kind;
 ghost use mathlib.Core.Path.{_≡_};
 ghost use lib.ListN.{length};
 ghost use Rattle.program_bytes.specs.Format.{readProgram};
-ghost use Rattle.answers.specs.Answer.{tableAfter, PlacesAt};
+ghost use Rattle.verdicts.specs.Answer.{tableAfter, PlacesAt};
 ghost use Rattle.checker.specs.Indexed.{indexAfter};
 ghost use Rattle.order_check_c.specs.Answer.{kindNumber, eight, numbersOf, Told};
 

@@ -8,6 +8,8 @@ use lib.ListN.{getD, getElem?, set, replicate}
 use Rattle.limits.specs.Limits.{registers as registerCount}
 use Rattle.program.specs.Program.{Operand, constant, register, Line, Program, linesOf}
 use Rattle.program.specs.Program.{sum, equal, less, jump, write, read, fadd, cas, wait, bcas}
+use Rattle.program.specs.declared.Kind.{Kind}
+use Rattle.program.specs.declared.Kind.the-variants.{Read, Write, Update}
 
 -- "A thread state is a thread's line and registers."
 pub record ThreadState : Type 0 where
@@ -40,10 +42,6 @@ pub data Action : Type 0 where
   reads : Action
   writes : (value : ℕ) → Action
   updates : (value : ℕ) → Action
-
--- "kind (R, W or M for read-modify-write)"
-pub data Kind : Type 0 where
-  Read Write Update : Kind
 
 -- The kind of an action.
 unfoldable pub kindOf : Action → Kind

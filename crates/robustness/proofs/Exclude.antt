@@ -3,9 +3,10 @@ use mathlib.Core.Path.{_≡_, refl}
 use mathlib.Core.List.{List, [], _∷_, _++_}
 use Prim.Native.Nat.{ℕ}
 use Rattle.program.specs.Program.{Program}
-use Rattle.program.specs.Thread.{Kind}
-use Rattle.model.specs.Run.{State, stateAfter}
-use Rattle.model.specs.Witness.{NoWitness, Robust, NotRobust}
+use Rattle.program.specs.declared.Kind.{Kind}
+use Rattle.model.specs.Run.{stateAfter, andStep}
+use Rattle.model.specs.Witness.{NoWitness}
+use Rattle.robustness.specs.Robust.{Robust, NotRobust}
 use Rattle.robustness.proofs.NotRobust.{witness-not-robust}
 
 pub not-both : {p : Program} {schedule : List ℕ} {t : ℕ} {kind : Kind} {x u : ℕ} → NotRobust p schedule t kind x u
@@ -13,7 +14,7 @@ pub not-both : {p : Program} {schedule : List ℕ} {t : ℕ} {kind : Kind} {x u 
 unfolding stateAfter
 not-both {schedule = schedule} {t = t} n r =
     let a = n .witness .access in
-    let q = r (schedule ++ t ∷ []) (stateAfter a) (n .weakRun) in
+    let q = r (schedule ++ t ∷ []) (stateAfter a) (andStep (n .weakRun) (n .weakStep)) in
     n .beyond a (n .witness .stale) (n .witness .ofValue) (q .0) (stateAfter a) (q .1) refl
 
 pub robust-has-no-witness : (p : Program) → Robust p → NoWitness p

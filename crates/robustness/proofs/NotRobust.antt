@@ -6,11 +6,12 @@ use Rattle.relations.specs.Closure.{edge, further}
 use Rattle.relations.proofs.Laws.{closure-joins}
 use Rattle.lists.proofs.Ends.{same-last, regroup-snoc, member-put-in}
 use Rattle.program.specs.Program.{Program}
-use Rattle.program.specs.Thread.{Kind}
+use Rattle.program.specs.declared.Kind.{Kind}
 use Rattle.model.specs.Graph.{Id, order}
 use Rattle.model.specs.Order.{ScOrder}
-use Rattle.model.specs.Run.{State, Access, graphAfter, accessStep, andStep, ScRun}
-use Rattle.model.specs.Witness.{Stale, Witness, BeyondSc, NotRobust}
+use Rattle.model.specs.Run.{State, Access, graphAfter, accessStep, ScRun}
+use Rattle.model.specs.Witness.{Stale, Witness}
+use Rattle.robustness.specs.Robust.{BeyondSc, NotRobust}
 use Rattle.model.proofs.Growth.{Addition, newId, grown, sc-order-grows}
 use Rattle.model.proofs.NewEdges.{thread-order-in-sc, own-before-new, new-before-later}
 use Rattle.model.proofs.Reachable.{Good, additionOf, graph-grown, run-good, sc-order-acyclic, sc-run-is-ra-run}
@@ -62,7 +63,8 @@ module _ {p : Program} {schedule : List ℕ} {s : State} {t : ℕ} {kind : Kind}
       record {
         state = s;
         run = run;
+        weakRun = sc-run-is-ra-run run;
         witness = w;
-        weakRun = andStep (sc-run-is-ra-run run) (accessStep (w .access) (w .allowed) refl);
+        weakStep = accessStep (w .access) (w .allowed) refl;
         beyond = λ a k q. stale-access-beyond-sc a k;
       }

@@ -12,7 +12,8 @@ use Rattle.model.specs.Graph.{valueOf}
 use Rattle.model.specs.Order.{ScOrder}
 use Rattle.model.specs.Run.{State, threadOf, Access, stateAfter, Allowed, localStep, accessStep, noStep, andStep}
 use Rattle.model.specs.Run.{RaStep, RaRun}
-use Rattle.model.specs.Witness.{NoWitness, Robust}
+use Rattle.model.specs.Witness.{NoWitness}
+use Rattle.robustness.specs.Robust.{Robust}
 use Rattle.robustness.proofs.Seen.{Seen}
 use Rattle.robustness.proofs.Rotate.{Steps, none, more, steps-good, run-of-steps, LastSeen, rotate}
 use Rattle.robustness.proofs.Push.{Pushed, push}

@@ -9,14 +9,16 @@ use native.Mathlib.Omega.{arith}
 use Rattle.relations.proofs.Laws.{last-edge}
 use Rattle.relations.specs.Closure.{IsOrBefore, edge, further, here, Reaches}
 use Rattle.program.specs.Program.{Program, constant, write, read}
-use Rattle.program.specs.Thread.{ThreadState, load, Read, reads, writes, nextLine, doesAt, does, operand, kindOf}
+use Rattle.program.specs.Thread.{ThreadState, load, reads, writes, nextLine, doesAt, does, operand, kindOf}
+use Rattle.program.specs.declared.Kind.the-variants.{Read}
 use Rattle.program.specs.Thread.{writing}
 use Rattle.model.specs.Graph.{Id, start, event, startGraph, eventAt, below, threadEvents, valueWritten, sourceOf}
 use Rattle.model.specs.Graph.{eventOf, directlyAfter, extend}
 use Rattle.model.specs.Order.{HappensEdge, HappensBefore, starting, within, threadOrder, readsFrom, at, happensBefore}
 use Rattle.model.specs.Order.{fromRead, ScOrder}
 use Rattle.model.specs.Run.{startState, Access, graphAfter, stateAfter, accessStep, noStep, andStep, ScRun}
-use Rattle.model.specs.Witness.{Witness, NotRobust}
+use Rattle.model.specs.Witness.{Witness}
+use Rattle.robustness.specs.Robust.{NotRobust}
 use Rattle.robustness.proofs.NotRobust.{witness-not-robust}
 use Rattle.model.proofs.StartsFirst.{nothing-happens-before-start}
 

@@ -14,9 +14,10 @@ use Rattle.sets.proofs.Empty.{isEmpty-setOf-none}
 use Rattle.sets.proofs.Smallest.{smallest-least, smallest-below, smallest-setOf-member}
 use Rattle.sets.proofs.SetOf.{has-setOf-below}
 use Rattle.program.specs.Program.{Program}
-use Rattle.program.specs.Thread.{startThread, Kind, Effect, NextLine, ended, local, access, nextLine}
+use Rattle.program.specs.Thread.{startThread, Effect, NextLine, ended, local, access, nextLine}
+use Rattle.program.specs.declared.Kind.{Kind}
 use Rattle.rules.specs.Situation.{Situation}
-use Rattle.rules.specs.Ending.{Ending}
+use Rattle.rules.specs.declared.Ending.{Ending}
 use Rattle.rules.specs.Update.{rowOf}
 use Rattle.rules.specs.Test.{mayUse, usable, kindWith, endingWith, endingBy, orElse, endingFrom, endingOn}
 use Rattle.situations.proofs.Named.{NotAfter}

@@ -12,7 +12,8 @@ use Rattle.lists.proofs.Ends.{Snoc, empty-or-snoc, regroup-snoc, split-not-nil}
 use Rattle.relations.proofs.Precedes.{precedes-after}
 use Rattle.sets.specs.Sets.{has}
 use Rattle.program.specs.Program.{Program}
-use Rattle.program.specs.Thread.{startThread, Kind, kindOf, writing, Effect, access, nextLine}
+use Rattle.program.specs.Thread.{startThread, kindOf, writing, Effect, access, nextLine}
+use Rattle.program.specs.declared.Kind.{Kind}
 use Rattle.rules.specs.Situation.{Situation}
 use Rattle.rules.specs.Update.{rowOf}
 use Rattle.rules.specs.Test.{mayUse}

@@ -6,12 +6,12 @@ use mathlib.Core.Path.{_≡_, refl, ap, subst, _∙_}
 use mathlib.Core.Option.{Option, none, some}
 use mathlib.Core.List.{List, [], _∷_}
 use Rattle.program.specs.Program.{constant, Line, write, read, wait, Program}
-use Rattle.program.specs.Thread.{Read, Write}
+use Rattle.program.specs.declared.Kind.the-variants.{Read, Write}
 use Rattle.program_bytes.specs.Outcome.{accepted}
 use Rattle.program_bytes.specs.Spelling.{Valid, operandByte, spellLine, spellLines, spellThread, spellThreads, spell}
-use Rattle.model.specs.Witness.{Robust, NotRobust}
+use Rattle.robustness.specs.Robust.{Robust, NotRobust}
 use Rattle.rules.specs.Situation.{Situation}
-use Rattle.rules.specs.Ending.{Ending}
+use Rattle.rules.specs.declared.Ending.{Ending}
 use Rattle.rules.proofs.Searched.{searchedOn}
 use Rattle.numbering.specs.Numbering.{Entry}
 use Rattle.numbering.specs.Verdict.{Verdict, Outcome, found, full, closed}

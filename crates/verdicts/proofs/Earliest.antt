@@ -5,12 +5,12 @@ use mathlib.Core.List.{List}
 use mathlib.Core.Option.{Option, none, some, Option·map}
 use mathlib.Core.Logic.{_⊎_}
 use Rattle.program.specs.Program.{Program}
-use Rattle.program.specs.Thread.{Kind}
+use Rattle.program.specs.declared.Kind.{Kind}
 use Rattle.program_bytes.specs.Spelling.{Valid}
 use Rattle.model.specs.Run.{State, ScRun}
 use Rattle.model.specs.Witness.{Witness}
 use Rattle.rules.specs.Situation.{Situation}
-use Rattle.rules.specs.Ending.{Ending}
+use Rattle.rules.specs.declared.Ending.{Ending}
 use Rattle.rules.specs.Test.{endingOn}
 use Rattle.situations.specs.Situation.{situationOf}
 use Rattle.situations.specs.Schedule.{situationBy}

@@ -7,13 +7,13 @@ use Rattle.program.specs.Program.{Program}
 use Rattle.program_bytes.specs.Outcome.{Outcome, refused, accepted}
 use Rattle.program_bytes.specs.Format.{readProgram}
 use Rattle.rules.specs.Situation.{Situation}
-use Rattle.rules.specs.Ending.{Ending}
+use Rattle.rules.specs.declared.Ending.{Ending}
 use Rattle.rules.proofs.Searched.{searchedOn}
 use Rattle.numbering.specs.Numbering.{Entry}
 use Rattle.numbering.specs.Verdict.{Verdict}
 use Rattle.place_bytes.specs.Layout.{placeSize}
 use Rattle.verdicts.proofs.Computed.{readOn, accepted-valid, by-search}
-use Rattle.answers.specs.Answer.{Answer, turnedDown, placesIn, reported, answerTo, tracedBy, traceAfter}
+use Rattle.verdicts.specs.Answer.{Answer, turnedDown, placesIn, reported, answerTo, tracedBy, traceAfter}
 
 -- The answer, and the trace at exit.
 pub record Result : Type 0 where

@@ -4,8 +4,8 @@ use mathlib.Core.List.{List, map, List·Memᴰ as Member}
 use mathlib.Core.Option.{some, Option·some-injective}
 use lib.ListN.{getElem?}
 use Rattle.lists.proofs.Places.{place-of-member, place-of-map}
-use Rattle.cases.specs.Table.{Case, Holds, cases}
-use Rattle.cases.proofs.BySearch.{Result, resultBySearch, result-by-search}
+use Rattle.verdicts.specs.Table.{Case, Holds, cases}
+use Rattle.verdicts.proofs.BySearch.{Result, resultBySearch, result-by-search}
 
 -- What the search hands back for a case, and what the case says.
 abbrev computed : Case → Result

@@ -1,11 +1,12 @@
 -- Document 01, section "Cases, marked * where proved": the starred cases as entries of one table.
-use Prim.Native.Nat.{ℕ}
+use Prim.Native.Nat.{ℕ, _-_}
 use mathlib.Core.Path.{_≡_}
 use mathlib.Core.List.{List, [], _∷_, _++_}
 use lib.ListN.{length}
-use Rattle.program.specs.Thread.{Read, Write}
+use Rattle.program.specs.declared.Kind.{Kind}
+use Rattle.program.specs.declared.Kind.the-variants.{Read, Write}
 use Rattle.program_bytes.specs.Format.{readProgram}
-use Rattle.answers.specs.Answer.{Answer, robust, notRobust, placesFull, traceShort, turnedDown, answerOf, traceAfter}
+use Rattle.verdicts.specs.Answer.{Answer, robust, ended, placesFull, traceShort, turnedDown, answerOf, traceAfter}
 
 -- What is handed in, the answer, and the lent trace at exit.
 pub record Case : Type 0 where
@@ -19,6 +20,11 @@ pub record Case : Type 0 where
 pub record Holds (c : Case) : Type 0 where
   pub answered : answerOf (c .bytes) (c .tableLength) (length (c .trace)) ≡ c .answer
   pub traced : traceAfter (readProgram (c .bytes)) (c .tableLength) (c .trace) ≡ c .traceAtExit
+
+-- "NR, count, number of steps, thread, kind .., location and stale value". The thread is numbered from 1.
+abbrev notRobust : (count steps thread : ℕ) (kind : Kind) (location value : ℕ) → Answer
+notRobust count steps thread kind location value =
+    ended count steps (record { thread = thread - 1; kind = kind; location = location; value = value })
 
 -- "PR, T, L, K", "TH, n" and "IN, op, reg, target, A, B", with their marks in ASCII.
 abbrev header : (T L K : ℕ) → List ℕ

@@ -1,2 +1,0 @@
-pub mod BySearch
-pub mod EveryCase

@@ -1,1 +1,0 @@
-// No code: the starred cases of document 01, and the proof that the definitions give what they say.
