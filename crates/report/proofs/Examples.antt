@@ -1,16 +1,17 @@
 -- Printed texts of document 01 and numerals of several digits. One table, one computed test over it.
-use Prim.Native.Nat.{ℕ}
+use Prim.Native.Nat.{ℕ, _-_}
 use Prim.Native.Char.{code}
 use Prim.Native.String.{String, [] as end, _∷_ as _then_}
 use mathlib.Core.Path.{_≡_, refl}
 use mathlib.Core.Bool.{Bool, true, false, _&&_}
 use mathlib.Core.List.{List, [], _∷_}
 use lib.Dec.{eqb}
-use Rattle.witness.specs.declared.Kind.the-variants.{Read, Write, Update}
+use Rattle.program.specs.declared.Kind.{Kind}
+use Rattle.program.specs.declared.Kind.the-variants.{Read, Write, Update}
 use Rattle.report.specs.declared.Report.{Report}
-use Rattle.report.specs.declared.Report.the-variants.{Robust, NotRobust, Full, Short, Refused}
+use Rattle.report.specs.declared.Report.the-variants.{Robust, Ended, Full, Short, Refused}
 use Rattle.report.specs.Number.{checkNumber}
-use Rattle.report.specs.Text.{decimalIn, decimal, line, letter, stepLines, textOf}
+use Rattle.report.specs.Text.{decimalIn, decimal, line, letter, stepLines, endingLine, textOf}
 
 -- A report, the trace that it comes with, and what is printed.
 record Example : Type 0 where
@@ -18,15 +19,20 @@ record Example : Type 0 where
   trace : List ℕ
   text : String
 
+-- An NR report. The thread is numbered from 1.
+abbrev notRobust : (count steps thread : ℕ) (kind : Kind) (location value : ℕ) → Report
+notRobust count steps thread kind location value =
+    Ended count steps (record { thread = thread - 1; kind = kind; location = location; value = value })
+
 abbrev example : Report → List ℕ → String → Example
 example report trace text = record { report = report; trace = trace; text = text }
 
 abbrev examples : List Example
 examples =
     -- "For SB below the whole output is"
-    example (NotRobust 7 3 2 Read 0 0) (1 ∷ 1 ∷ 2 ∷ []) "NR 7 3 2 R 0 0\nST 1\nST 1\nST 2\n"
+    example (notRobust 7 3 2 Read 0 0) (1 ∷ 1 ∷ 2 ∷ []) "NR 7 3 2 R 0 0\nST 1\nST 1\nST 2\n"
     -- "2+2W .. NR 8 3 2 W 0 0 with steps 1, 1, 2."
-    ∷ example (NotRobust 8 3 2 Write 0 0) (1 ∷ 1 ∷ 2 ∷ []) "NR 8 3 2 W 0 0\nST 1\nST 1\nST 2\n"
+    ∷ example (notRobust 8 3 2 Write 0 0) (1 ∷ 1 ∷ 2 ∷ []) "NR 8 3 2 W 0 0\nST 1\nST 1\nST 2\n"
     -- "MP .. 767: RB 13. 766: 11, count 12."
     ∷ example (Robust 13) [] "RB 13\n"
     ∷ example (Full 12) [] "FU 12\n"
@@ -38,7 +44,7 @@ examples =
     -- "SB with a trace of 2: 10."
     ∷ example (Short 3) (0 ∷ 0 ∷ []) "NO 10\n"
     -- digits of every kind, an update, and a trace that is longer than the run
-    ∷ example (NotRobust 1005 2 8 Update 7 15) (8 ∷ 1 ∷ 250 ∷ []) "NR 1005 2 8 M 7 15\nST 8\nST 1\n"
+    ∷ example (notRobust 1005 2 8 Update 7 15) (8 ∷ 1 ∷ 250 ∷ []) "NR 1005 2 8 M 7 15\nST 8\nST 1\n"
     ∷ example (Robust 2346789) (1 ∷ []) "RB 2346789\n"
     ∷ []
 
@@ -54,5 +60,5 @@ passes [] = true
 passes (e ∷ es) = spells (e .text) (textOf (e .report) (e .trace)) && passes es
 
 pub every-example : passes examples ≡ true
-unfolding textOf checkNumber line stepLines letter decimal decimalIn
+unfolding textOf endingLine checkNumber line stepLines letter decimal decimalIn
 every-example = refl

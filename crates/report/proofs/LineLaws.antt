@@ -6,7 +6,8 @@ use mathlib.Core.Path.{_≡_, refl, ap, sym, _∙_}
 use mathlib.Core.List.{List, [], _∷_, _++_, append-assoc, append-nil}
 use lib.ListN.{length, getD}
 use Rattle.report.specs.Put.{Put}
-use Rattle.report.specs.Text.{decimal, space, newline, line, markST, stepLines}
+use Rattle.rules.specs.declared.Ending.{Ending}
+use Rattle.report.specs.Text.{decimal, space, newline, line, letter, markNR, markST, endingLine, stepLines}
 use Rattle.report.proofs.Puts.{put-nothing, put-then, put-as}
 
 -- A mark and one field.
@@ -27,6 +28,28 @@ pub line-of-first-four : (a b d e f : List ℕ) (others : List (List ℕ))
     ≡ a ++ (space ∷ b) ++ (space ∷ d) ++ (space ∷ e) ++ (space ∷ line (f ∷ others))
 unfolding line
 line-of-first-four a b d e f others = simp append-assoc
+
+-- The line of an ending: the fields up to the thread, then the access.
+pub ending-put : {d e f : List ℕ} {next last : ℕ} (count steps : ℕ) (w : Ending)
+    → Put d 0 (markNR ++ (space ∷ decimal count) ++ (space ∷ decimal steps) ++ (space ∷ decimal (w .thread + 1))) e next
+    → Put e next (space ∷ line ((letter (w .kind) ∷ []) ∷ decimal (w .location) ∷ decimal (w .value) ∷ [])) f last
+    → Put d 0 (endingLine count steps w) f last
+unfolding endingLine
+ending-put count steps w run access =
+    put-as
+    (ap (λ (n : ℕ).
+    line
+    (markNR
+    ∷ decimal count
+    ∷ decimal steps
+    ∷ decimal n
+    ∷ (letter (w .kind) ∷ [])
+    ∷ decimal (w .location)
+    ∷ decimal (w .value)
+    ∷ []))
+    (sym (add-one (w .thread)))
+    ∙ line-of-first-four _ _ _ _ _ _)
+    (put-then run access)
 
 -- The line of one step more.
 one-more-step : (i : ℕ) (trace : List ℕ) → i < length trace

@@ -1,12 +1,12 @@
 -- Document 01's number of each report.
 use Prim.Native.Nat.{ℕ}
 use Rattle.report.specs.declared.Report.{Report}
-use Rattle.report.specs.declared.Report.the-variants.{Robust, NotRobust, Full, Short, Refused}
+use Rattle.report.specs.declared.Report.the-variants.{Robust, Ended, Full, Short, Refused}
 
 -- The number of the check that failed, 0 where none did: "10, with a wanted length", "11, printed as FU".
 unfoldable pub checkNumber : Report → ℕ
 checkNumber (Robust count) = 0
-checkNumber (NotRobust count steps thread kind location value) = 0
+checkNumber (Ended count steps e) = 0
 checkNumber (Full count) = 11
 checkNumber (Short wanted) = 10
 checkNumber (Refused number) = number

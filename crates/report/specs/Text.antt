@@ -4,11 +4,13 @@ use mathlib.Core.Bool.{cond}
 use mathlib.Core.List.{List, [], _∷_, _++_}
 use lib.ListN.{length, take, drop}
 use lib.Dec.{ltb}
-use Rattle.witness.specs.declared.Kind.{Kind}
-use Rattle.witness.specs.declared.Kind.the-variants.{Read, Write, Update}
+use Rattle.program.specs.declared.Kind.{Kind}
+use Rattle.program.specs.declared.Kind.the-variants.{Read, Write, Update}
+use Rattle.rules.specs.declared.Ending.{Ending}
+use Rattle.rules.specs.Ending.{threadNumber}
 use Rattle.report.specs.Number.{checkNumber}
 use Rattle.report.specs.declared.Report.{Report}
-use Rattle.report.specs.declared.Report.the-variants.{Robust, NotRobust, Full, Short, Refused}
+use Rattle.report.specs.declared.Report.the-variants.{Robust, Ended, Full, Short, Refused}
 
 -- The digits 0 to 9.
 abbrev pub digit : ℕ → ℕ
@@ -64,6 +66,19 @@ stepLines zero trace = []
 stepLines (suc steps) [] = []
 stepLines (suc steps) (thread ∷ trace) = line (markST ∷ decimal thread ∷ []) ++ stepLines steps trace
 
+-- "NR, count, number of steps, thread, kind .., location and stale value"
+unfoldable pub endingLine : (count steps : ℕ) → Ending → List ℕ
+endingLine count steps e =
+    line
+    (markNR
+    ∷ decimal count
+    ∷ decimal steps
+    ∷ decimal (threadNumber (e .thread))
+    ∷ (letter (e .kind) ∷ [])
+    ∷ decimal (e .location)
+    ∷ decimal (e .value)
+    ∷ [])
+
 -- "RB and the count; FU and the count; NO and the number; or NR, count, number of steps, thread, kind .., location and
 -- stale value, then one ST line with the thread for each step."
 unfoldable pub textOf : Report → (trace : List ℕ) → List ℕ
@@ -71,17 +86,7 @@ textOf (Robust count) trace = line (markRB ∷ decimal count ∷ [])
 textOf (Full count) trace = line (markFU ∷ decimal count ∷ [])
 textOf (Refused number) trace = line (markNO ∷ decimal (checkNumber (Refused number)) ∷ [])
 textOf (Short wanted) trace = line (markNO ∷ decimal (checkNumber (Short wanted)) ∷ [])
-textOf (NotRobust count steps thread kind location value) trace =
-    line
-    (markNR
-    ∷ decimal count
-    ∷ decimal steps
-    ∷ decimal thread
-    ∷ (letter kind ∷ [])
-    ∷ decimal location
-    ∷ decimal value
-    ∷ [])
-    ++ stepLines steps trace
+textOf (Ended count steps e) trace = endingLine count steps e ++ stepLines steps trace
 
 -- A buffer in which a text has been laid: the text as far as the buffer reaches, then the other bytes as they were.
 abbrev pub laid : (text buffer : List ℕ) → List ℕ

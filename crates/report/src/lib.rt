@@ -3,27 +3,25 @@
 mod lines;
 mod put;
 
+use crate::lines::put_ending;
 use crate::lines::put_line;
 use crate::lines::put_steps;
-use crate::lines::put_witness;
-use witness::Kind;
+use rules::Ending;
 ghost use mathlib.Core.Path.{_≡_};
 ghost use Prim.Native.Nat.{min};
 ghost use lib.ListN.{length};
 ghost use Rattle.report.specs.Text.{textOf, laid};
 
-// What the checker has to say of a program. Threads are numbered from 1.
+// What the checker has to say of a program.
 pub enum Report {
     Robust {
         count: usize,
     },
-    NotRobust {
+    // So many steps lead to what ended the search. An ending by a witness is NR.
+    Ended {
         count: usize,
         steps: usize,
-        thread: usize,
-        kind: Kind,
-        location: usize,
-        value: u8,
+        ending: Ending,
     },
     Full {
         count: usize,
@@ -46,15 +44,12 @@ pub fn text(report: Report, trace: &[u8], out: &mut [u8]) -> usize
 {
     match report {
         Report::Robust { count } => put_line(out, 0, b"RB", count),
-        Report::NotRobust {
+        Report::Ended {
             count,
             steps,
-            thread,
-            kind,
-            location,
-            value,
+            ending,
         } => {
-            let next = put_witness(out, count, steps, thread, kind, location, value);
+            let next = put_ending(out, count, steps, ending);
             put_steps(out, next, trace, steps)
         }
         Report::Full { count } => put_line(out, 0, b"FU", count),

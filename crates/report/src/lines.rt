@@ -2,11 +2,12 @@
 use crate::put::put_byte;
 use crate::put::put_bytes;
 use crate::put::put_field;
-use witness::Kind;
+use program::Kind;
+use rules::Ending;
 ghost use mathlib.Core.Path.{_≡_};
 ghost use mathlib.Core.List.{_∷_, [], _++_};
 ghost use Rattle.report.specs.Put.{Put};
-ghost use Rattle.report.specs.Text.{decimal, space, line, letter, markST, markNR, stepLines};
+ghost use Rattle.report.specs.Text.{decimal, space, line, letter, markST, markNR, stepLines, endingLine};
 
 // A line of a mark and one number.
 pub fn put_line(out: &mut [u8], at: usize, mark: &[u8], n: usize) -> usize
@@ -78,20 +79,12 @@ fn put_run(out: &mut [u8], count: usize, steps: usize, thread: usize) -> usize
     put_field(out, next, thread)
 }
 
-// The NR line.
-pub fn put_witness(
-    out: &mut [u8],
-    count: usize,
-    steps: usize,
-    thread: usize,
-    kind: Kind,
-    location: usize,
-    value: u8,
-) -> usize
-    ensures { λ r. ⌜ Put (now (out .entry)) 0
-        (line (markNR ∷ decimal count ∷ decimal steps ∷ decimal thread ∷ (letter kind ∷ []) ∷ decimal location
-        ∷ decimal value ∷ [])) (now (out .exit)) r ⌝ }
+// The line of an ending, which is a witness: NR.
+pub fn put_ending(out: &mut [u8], count: usize, steps: usize, ending: Ending) -> usize
+    ensures { λ r. ⌜ Put (now (out .entry)) 0 (endingLine count steps ending) (now (out .exit)) r ⌝ }
 {
+    let kind = ending.kind;
+    let thread = ending.thread as usize + 1;
     let next = put_run(out, count, steps, thread);
-    put_access(out, next, kind, location, value)
+    put_access(out, next, kind, ending.location, ending.value)
 }

@@ -24,7 +24,7 @@ returns-2 c =
     let told = first .before .before .before in
     let a = told .before .before .before .before .args in
     printed (a .report) _ (now (a .trace)) (told .report2 .given .1)
-    (put-then (first .put-witness .ensures) (second .put-steps .ensures))
+    (put-then (first .put-ending .ensures) (second .put-steps .ensures))
 
 returns-3 : tie.Need-returns-3
 unfolding textOf checkNumber
