@@ -1,7 +1,7 @@
 -- A report that gives an answer has its number.
 use Prim.Native.Nat.{ℕ}
 use mathlib.Core.Path.{_≡_, refl, ap, _∙_}
-use Rattle.verdicts.specs.Answer.{Answer, robust, notRobust, placesFull, traceShort, turnedDown, numberOf}
+use Rattle.verdicts.specs.Answer.{Answer, robust, ended, placesFull, traceShort, turnedDown, numberOf}
 use Rattle.report.specs.Number.{checkNumber}
 use Rattle.report.specs.declared.Report.{Report}
 use Rattle.checker.specs.Report.{reportOf, Allowed, Answered}
@@ -9,7 +9,7 @@ use Rattle.checker.specs.Report.{reportOf, Allowed, Answered}
 numbered : (wanted : ℕ) (a : Answer) → checkNumber (reportOf wanted a) ≡ numberOf a
 unfolding reportOf numberOf checkNumber
 numbered wanted (robust count) = refl
-numbered wanted (notRobust count steps thread kind location value) = refl
+numbered wanted (ended count steps e) = refl
 numbered wanted (placesFull count) = refl
 numbered wanted (traceShort steps count) = refl
 numbered wanted (turnedDown number) = refl

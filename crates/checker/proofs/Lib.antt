@@ -4,6 +4,6 @@ pub mod Clauses
 pub mod Searched
 pub mod Ways
 pub mod Tracing
-pub mod Witnessed
+pub mod Endings
 pub mod IndexKept
 pub mod Judging
