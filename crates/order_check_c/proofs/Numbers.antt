@@ -1,14 +1,20 @@
--- The numbers of an NR report.
-use Prim.Native.Nat.{ℕ}
-use mathlib.Core.Path.{_≡_, ap, sym, _∙_}
-use Rattle.witness.specs.declared.Kind.{Kind}
+-- The numbers of a report.
+use Prim.Native.Nat.{ℕ, _+_}
+use native.Mathlib.Numerals.{add-one}
+use mathlib.Core.Path.{_≡_, ap, ap₂, sym, _∙_}
+use mathlib.Core.List.{List}
+use Rattle.rules.specs.declared.Ending.{Ending}
 use Rattle.report.specs.declared.Report.{Report}
-use Rattle.report.specs.declared.Report.the-variants.{NotRobust}
-use Rattle.order_check_c.specs.Answer.{kindNumber, eight, numbersOf}
+use Rattle.report.specs.declared.Report.the-variants.{Ended}
+use Rattle.order_check_c.specs.Answer.{kindNumber, eight, endingNumbers, numbersOf}
 
-pub not-robust-numbers : {r : Report} {count steps thread : ℕ} {kind : Kind} {location value number : ℕ}
-    → r ≡ NotRobust count steps thread kind location value → number ≡ kindNumber kind
-    → eight 1 0 count steps thread number location value ≡ numbersOf r
+pub witness-numbers : (count steps : ℕ) (e : Ending) {number : ℕ} → number ≡ kindNumber (e .kind)
+    → eight 1 0 count steps (e .thread + 1) number (e .location) (e .value) ≡ endingNumbers count steps e
+unfolding endingNumbers
+witness-numbers count steps e numbered =
+    ap₂ (λ (t k : ℕ). eight 1 0 count steps t k (e .location) (e .value)) (add-one (e .thread)) numbered
+
+pub ending-numbers : {r : Report} {count steps : ℕ} {e : Ending} {numbers : List ℕ} → r ≡ Ended count steps e
+    → numbers ≡ endingNumbers count steps e → numbers ≡ numbersOf r
 unfolding numbersOf
-not-robust-numbers {r} {count} {steps} {thread} {kind} {location} {value} is numbered =
-    ap (λ (k : ℕ). eight 1 0 count steps thread k location value) numbered ∙ sym (ap numbersOf is)
+ending-numbers is told = told ∙ ap numbersOf (sym is)

@@ -2,11 +2,15 @@
 use Prim.Native.Nat.{ℕ}
 use mathlib.Core.Path.{_≡_}
 use mathlib.Core.List.{List, [], _∷_}
-use Rattle.witness.specs.declared.Kind.{Kind}
-use Rattle.witness.specs.declared.Kind.the-variants.{Read, Write, Update}
+use Rattle.program.specs.Program.{Program}
+use Rattle.program.specs.declared.Kind.{Kind}
+use Rattle.program.specs.declared.Kind.the-variants.{Read, Write, Update}
+use Rattle.program_bytes.specs.Outcome.{Outcome}
+use Rattle.rules.specs.declared.Ending.{Ending}
+use Rattle.rules.specs.Ending.{threadNumber}
 use Rattle.report.specs.Number.{checkNumber}
 use Rattle.report.specs.declared.Report.{Report}
-use Rattle.report.specs.declared.Report.the-variants.{Robust, NotRobust, Full, Short, Refused}
+use Rattle.report.specs.declared.Report.the-variants.{Robust, Ended, Full, Short, Refused}
 use Rattle.checker.specs.Checked.{Checked}
 
 -- The number of a kind: 1 R, 2 W, 3 M.
@@ -20,16 +24,21 @@ abbrev pub eight : (verdict number count steps thread kind location value : ℕ)
 eight verdict number count steps thread kind location value =
     verdict ∷ number ∷ count ∷ steps ∷ thread ∷ kind ∷ location ∷ value ∷ []
 
+-- NR. The thread is told from 1.
+unfoldable pub endingNumbers : (count steps : ℕ) → Ending → List ℕ
+endingNumbers count steps e =
+    eight 1 0 count steps (threadNumber (e .thread)) (kindNumber (e .kind)) (e .location) (e .value)
+
 -- Each report in these numbers; what it does not use is 0.
 unfoldable pub numbersOf : Report → List ℕ
 numbersOf (Robust count) = eight 0 0 count 0 0 0 0 0
-numbersOf (NotRobust count steps thread kind location value) = eight 1 0 count steps thread (kindNumber kind) location value
+numbersOf (Ended count steps e) = endingNumbers count steps e
 numbersOf (Full count) = eight 2 (checkNumber (Full count)) count 0 0 0 0 0
 numbersOf (Short wanted) = eight 3 (checkNumber (Short wanted)) 0 wanted 0 0 0 0
 numbersOf (Refused number) = eight 3 (checkNumber (Refused number)) 0 0 0 0 0 0
 
 -- The numbers of a report that keeps all that the checker promises of it.
-pub record Told (bytes : List ℕ) (tableLength : ℕ) (trace traceAtExit numbers : List ℕ) : Type 0 where
+pub record Told (o : Outcome Program) (lentTable table lentTrace trace numbers : List ℕ) : Type 0 where
   pub report : Report
   pub told : numbers ≡ numbersOf report
-  pub checked : Checked bytes tableLength trace traceAtExit report
+  pub checked : Checked o lentTable table lentTrace trace report

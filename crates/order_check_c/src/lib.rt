@@ -1,14 +1,14 @@
 // The checker for C and Rust: a static library of two functions. order_check.h is its C header.
 use checker::check;
 use checker::check_indexed;
+use program::Kind;
 use report::Report;
-use witness::Kind;
+use rules::Ending;
 ghost use mathlib.Core.Path.{_≡_};
 ghost use lib.ListN.{length};
 ghost use Rattle.program_bytes.specs.Format.{readProgram};
-ghost use Rattle.verdicts.specs.Answer.{tableAfter, PlacesAt};
 ghost use Rattle.checker.specs.Indexed.{indexAfter};
-ghost use Rattle.order_check_c.specs.Answer.{kindNumber, eight, numbersOf, Told};
+ghost use Rattle.order_check_c.specs.Answer.{kindNumber, endingNumbers, numbersOf, Told};
 
 fn kind_number(kind: Kind) -> u64
     ensures { λ r. ⌜ r ≡ kindNumber kind ⌝ }
@@ -20,31 +20,34 @@ fn kind_number(kind: Kind) -> u64
     }
 }
 
+// A report of an ending, which is a witness: NR.
+fn numbers_of_ending(count: usize, steps: usize, ending: Ending) -> [u64; 8]
+    ensures { λ r. ⌜ r ≡ endingNumbers count steps ending ⌝ }
+{
+    let kind = ending.kind;
+    [
+        1,
+        0,
+        count as u64,
+        steps as u64,
+        ending.thread as u64 + 1,
+        kind_number(kind),
+        ending.location as u64,
+        ending.value as u64,
+    ]
+}
+
 // A report in eight numbers.
 fn numbers_of(report: Report) -> [u64; 8]
     ensures { λ r. ⌜ r ≡ numbersOf report ⌝ }
 {
     match report {
         Report::Robust { count } => [0, 0, count as u64, 0, 0, 0, 0, 0],
-        Report::NotRobust {
+        Report::Ended {
             count,
             steps,
-            thread,
-            kind,
-            location,
-            value,
-        } => {
-            [
-                1,
-                0,
-                count as u64,
-                steps as u64,
-                thread as u64,
-                kind_number(kind),
-                location as u64,
-                value as u64,
-            ]
-        }
+            ending,
+        } => numbers_of_ending(count, steps, ending),
         Report::Full { count } => [2, 11, count as u64, 0, 0, 0, 0, 0],
         Report::Short { wanted } => [3, 10, 0, wanted as u64, 0, 0, 0, 0],
         Report::Refused { number } => [3, number as u64, 0, 0, 0, 0, 0, 0],
@@ -59,11 +62,8 @@ pub extern "C" fn order_check(
     trace: &mut [u8],
     answer: &mut [u64; 8],
 )
-    ensures answer { λ r. ⌜ Told (now (program .entry)) (length (now (table .entry))) (now (trace .entry))
-        (now (trace .exit)) (now (answer .exit)) ⌝ }
-    ensures table { λ r. ⌜ now (table .exit) ≡ tableAfter (readProgram (now (program .entry))) (now (table .entry)) ⌝ }
-    ensures places { λ r.
-        ⌜ PlacesAt (readProgram (now (program .entry))) (now (table .entry)) (now (table .exit)) ⌝ }
+    ensures { λ r. ⌜ Told (readProgram (now (program .entry))) (now (table .entry)) (now (table .exit))
+        (now (trace .entry)) (now (trace .exit)) (now (answer .exit)) ⌝ }
 {
     let report = check(program, table, trace);
     *answer = numbers_of(report);
@@ -78,11 +78,8 @@ pub extern "C" fn order_check_indexed(
     index: &mut [u64],
     answer: &mut [u64; 8],
 )
-    ensures answer { λ r. ⌜ Told (now (program .entry)) (length (now (table .entry))) (now (trace .entry))
-        (now (trace .exit)) (now (answer .exit)) ⌝ }
-    ensures table { λ r. ⌜ now (table .exit) ≡ tableAfter (readProgram (now (program .entry))) (now (table .entry)) ⌝ }
-    ensures places { λ r.
-        ⌜ PlacesAt (readProgram (now (program .entry))) (now (table .entry)) (now (table .exit)) ⌝ }
+    ensures told { λ r. ⌜ Told (readProgram (now (program .entry))) (now (table .entry)) (now (table .exit))
+        (now (trace .entry)) (now (trace .exit)) (now (answer .exit)) ⌝ }
     ensures index { λ r. ⌜ now (index .exit)
         ≡ indexAfter (readProgram (now (program .entry))) (length (now (table .entry))) (now (index .entry)) ⌝ }
 {
