@@ -4,31 +4,12 @@ use native.Mathlib.Omega.{arith}
 use mathlib.Core.Path.{_≡_, ap, _∙_}
 use mathlib.Core.List.{List, [], _∷_, _++_}
 use lib.ListN.{length, getD, length-append}
-use Rattle.report.specs.declared.Report.{Report}
-use Rattle.report.specs.declared.Report.the-variants.{Robust, Ended, Full, Short, Refused}
-use Rattle.report.specs.Number.{checkNumber}
+use Rattle.rules.specs.declared.Ending.{Ending}
 use Rattle.rules.specs.Ending.{threadNumber}
-use Rattle.report.specs.Text.{space, newline, decimal, line, letter, stepLines, endingLine, textOf}
-use Rattle.report.specs.Text.{markRB, markFU, markNO, markNR, markST}
+use Rattle.report.specs.Text.{space, newline, decimal, line, letter, stepLines, endingLine}
+use Rattle.report.specs.Text.{markNR, markST, longestLine, longestStep, longestText}
 use Rattle.report.proofs.Decimals.{decimal-length}
 use Rattle.report.proofs.LineLaws.{line-of-two, line-of-last-three, line-of-first-four}
-
--- NR, three numbers of up to 20 digits, a letter, two numbers of up to 3 digits, six spaces and a newline.
-abbrev pub longestLine : ℕ
-longestLine = 2 + 3 * 20 + 1 + 2 * 3 + 6 + 1
-
--- ST, a space, a byte of up to 3 digits and a newline.
-abbrev pub longestStep : ℕ
-longestStep = 2 + 1 + 3 + 1
-
--- Each number of the report is one of its type.
-abbrev pub Typed : Report → Type 0
-Typed (Robust count) = count < 2 ^ 64
-Typed (Ended count steps e) =
-    (count < 2 ^ 64) × (steps < 2 ^ 64) × (e .thread < 2 ^ 8) × (e .location < 2 ^ 64) × (e .value < 2 ^ 8)
-Typed (Full count) = count < 2 ^ 64
-Typed (Short wanted) = wanted < 2 ^ 64
-Typed (Refused number) = number < 2 ^ 8
 
 word-length : (n : ℕ) → n < 2 ^ 64 → length (decimal n) ≤ 20
 word-length n h = decimal-length 19 n (omega arith)
@@ -79,31 +60,29 @@ steps-are-short (suc steps) (t ∷ trace) small =
       steps-are-short steps trace (λ j. small (suc j)),
     )
 
--- A buffer with room for the longest line, and for a step for each byte of the trace, has room for the text.
-pub text-is-short : (report : Report) (trace : List ℕ) → Typed report → ((j : ℕ) → getD trace j 0 < 2 ^ 8)
-    → length (textOf report trace) ≤ longestLine + longestStep * length trace
-unfolding textOf endingLine checkNumber
-text-is-short (Robust count) trace h small =
-    omega (arith, length-of-two markRB (decimal count), word-length count h)
-text-is-short (Full count) trace h small =
-    omega (arith, length-of-two markFU (decimal count), word-length count h)
-text-is-short (Short wanted) trace h small =
-    omega (arith, length-of-two markNO (decimal 10), word-length 10 (omega arith))
-text-is-short (Refused number) trace h small =
-    omega (arith, length-of-two markNO (decimal number), byte-length number (omega arith))
-text-is-short (Ended count steps e) trace h small =
-    let thread = decimal (threadNumber (e .thread)) in
-    let last = (letter (e .kind) ∷ []) ∷ decimal (e .location) ∷ decimal (e .value) ∷ [] in
+-- A text of one line, a mark and a number.
+pub number-is-short : (mark : List ℕ) → length mark ≡ 2 → (n : ℕ) → n < 2 ^ 64 → (traceLength : ℕ)
+    → length (line (mark ∷ decimal n ∷ [])) ≤ longestText traceLength
+number-is-short mark two n h traceLength = omega (arith, length-of-two mark (decimal n), word-length n h)
+
+pub ending-is-short : (count steps : ℕ) (e : Ending) → count < 2 ^ 64 → steps < 2 ^ 64 → e .thread < 2 ^ 8
+    → e .location < 2 ^ 64 → e .value < 2 ^ 8 → length (endingLine count steps e) ≤ longestLine
+unfolding endingLine
+ending-is-short count steps e small-count small-steps small-thread small-location small-value =
     omega (
       arith,
-      length-append (line (markNR ∷ decimal count ∷ decimal steps ∷ thread ∷ last)) (stepLines steps trace),
-      length-of-first-four markNR (decimal count) (decimal steps) thread (letter (e .kind) ∷ [])
-          (decimal (e .location) ∷ decimal (e .value) ∷ []),
+      length-of-first-four markNR (decimal count) (decimal steps) (decimal (threadNumber (e .thread)))
+          (letter (e .kind) ∷ []) (decimal (e .location) ∷ decimal (e .value) ∷ []),
       length-of-last-three (letter (e .kind)) (decimal (e .location)) (decimal (e .value)),
-      word-length count (h .0),
-      word-length steps (h .1),
-      byte-length (threadNumber (e .thread)) (omega (arith, h .2)),
-      word-length (e .location) (h .3),
-      byte-length (e .value) (omega (arith, h .4)),
-      steps-are-short steps trace small,
+      word-length count small-count,
+      word-length steps small-steps,
+      byte-length (threadNumber (e .thread)) (omega arith),
+      word-length (e .location) small-location,
+      byte-length (e .value) (omega arith),
     )
+
+-- A text with steps: its first line is short, and so is each step's.
+pub steps-text-is-short : (first : List ℕ) → length first ≤ longestLine → (steps : ℕ) (trace : List ℕ)
+    → ((j : ℕ) → getD trace j 0 < 2 ^ 8) → length (first ++ stepLines steps trace) ≤ longestText (length trace)
+steps-text-is-short first short steps trace small =
+    omega (arith, length-append first (stepLines steps trace), steps-are-short steps trace small)

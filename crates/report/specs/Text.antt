@@ -1,5 +1,5 @@
 -- What is printed for a report: document 01, "The printing program". A byte is its number in ASCII.
-use Prim.Native.Nat.{ℕ, zero, suc, _+_, _/_, _%_}
+use Prim.Native.Nat.{ℕ, zero, suc, _+_, _*_, _/_, _%_}
 use mathlib.Core.Bool.{cond}
 use mathlib.Core.List.{List, [], _∷_, _++_}
 use lib.ListN.{length, take, drop}
@@ -87,6 +87,19 @@ textOf (Full count) trace = line (markFU ∷ decimal count ∷ [])
 textOf (Refused number) trace = line (markNO ∷ decimal (checkNumber (Refused number)) ∷ [])
 textOf (Short wanted) trace = line (markNO ∷ decimal (checkNumber (Short wanted)) ∷ [])
 textOf (Ended count steps e) trace = endingLine count steps e ++ stepLines steps trace
+
+-- The longest line: NR, three numbers of up to 20 digits, a letter, two numbers of up to 3 digits, six spaces and a
+-- newline.
+abbrev pub longestLine : ℕ
+longestLine = 2 + 3 * 20 + 1 + 2 * 3 + 6 + 1
+
+-- The longest line of a step: ST, a space, a byte of up to 3 digits and a newline.
+abbrev pub longestStep : ℕ
+longestStep = 2 + 1 + 3 + 1
+
+-- A text is no longer than this, with a trace of that length.
+abbrev pub longestText : (traceLength : ℕ) → ℕ
+longestText traceLength = longestLine + longestStep * traceLength
 
 -- A buffer in which a text has been laid: the text as far as the buffer reaches, then the other bytes as they were.
 abbrev pub laid : (text buffer : List ℕ) → List ℕ

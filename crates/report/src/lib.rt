@@ -8,9 +8,9 @@ use crate::lines::put_line;
 use crate::lines::put_steps;
 use rules::Ending;
 ghost use mathlib.Core.Path.{_≡_};
-ghost use Prim.Native.Nat.{min};
+ghost use Prim.Native.Nat.{_≤_, min};
 ghost use lib.ListN.{length};
-ghost use Rattle.report.specs.Text.{textOf, laid};
+ghost use Rattle.report.specs.Text.{textOf, longestText, laid};
 
 // What the checker has to say of a program.
 pub enum Report {
@@ -40,6 +40,8 @@ pub enum Report {
 // bytes were written.
 pub fn text(report: Report, trace: &[u8], out: &mut [u8]) -> usize
     ensures length { λ r. ⌜ r ≡ min (length (textOf report (now (trace .entry)))) (length (now (out .entry))) ⌝ }
+    ensures short { λ r.
+        ⌜ length (textOf report (now (trace .entry))) ≤ longestText (length (now (trace .entry))) ⌝ }
     ensures written { λ r. ⌜ now (out .exit) ≡ laid (textOf report (now (trace .entry))) (now (out .entry)) ⌝ }
 {
     match report {

@@ -6,8 +6,10 @@ use program::Kind;
 use rules::Ending;
 ghost use mathlib.Core.Path.{_≡_};
 ghost use mathlib.Core.List.{_∷_, [], _++_};
+ghost use Prim.Native.Nat.{_≤_};
+ghost use lib.ListN.{length};
 ghost use Rattle.report.specs.Put.{Put};
-ghost use Rattle.report.specs.Text.{decimal, space, line, letter, markST, markNR, stepLines, endingLine};
+ghost use Rattle.report.specs.Text.{decimal, space, line, letter, markST, markNR, stepLines, endingLine, longestLine};
 
 // A line of a mark and one number.
 pub fn put_line(out: &mut [u8], at: usize, mark: &[u8], n: usize) -> usize
@@ -81,7 +83,8 @@ fn put_run(out: &mut [u8], count: usize, steps: usize, thread: usize) -> usize
 
 // The line of an ending, which is a witness: NR.
 pub fn put_ending(out: &mut [u8], count: usize, steps: usize, ending: Ending) -> usize
-    ensures { λ r. ⌜ Put (now (out .entry)) 0 (endingLine count steps ending) (now (out .exit)) r ⌝ }
+    ensures put { λ r. ⌜ Put (now (out .entry)) 0 (endingLine count steps ending) (now (out .exit)) r ⌝ }
+    ensures short { λ r. ⌜ length (endingLine count steps ending) ≤ longestLine ⌝ }
 {
     let kind = ending.kind;
     let thread = ending.thread as usize + 1;

@@ -1,6 +1,10 @@
 -- `report::text` meets its contract: each way prints the lines of its report from the start of the buffer.
 use Rattle.report.specs.Number.{checkNumber}
-use Rattle.report.specs.Text.{textOf}
+use mathlib.Core.Path.{refl}
+use Prim.Native.Nat.{ℕ}
+use lib.ListN.{length}
+use Rattle.report.specs.Text.{textOf, endingLine, markRB, markFU, markNO}
+use Rattle.report.proofs.Bound.{number-is-short, steps-text-is-short}
 use Rattle.report.proofs.Puts.{put-then}
 use Rattle.report.proofs.Printed.{printed}
 use denote.Ref.{now}
@@ -14,7 +18,8 @@ returns c =
     let put = c .before .before in
     let told = put .before .before .before .before in
     let a = told .before .before .before .before .args in
-    printed (a .report) _ (now (a .trace)) (told .report .given .1) (put .put-line .ensures)
+    printed (a .report) _ (now (a .trace)) (told .report .given .1)
+    (number-is-short markRB refl _ (search needs) (length (now (a .trace)))) (put .put-line .ensures)
 
 returns-2 : tie.Need-returns-2
 unfolding textOf checkNumber
@@ -23,8 +28,12 @@ returns-2 c =
     let first = second .before .before .before .before in
     let told = first .before .before .before in
     let a = told .before .before .before .before .args in
+    let named = told .report2 .given .0 in
+    let bytes = told .before .before .before .shared-slice-known .given in
     printed (a .report) _ (now (a .trace)) (told .report2 .given .1)
-    (put-then (first .put-ending .ensures) (second .put-steps .ensures))
+    (steps-text-is-short (endingLine (named .0) (named .1 .0) (named .1 .1 .0)) (first .put-ending .ensures .1)
+    (named .1 .0) (now (a .trace)) (λ (j : ℕ). bytes j .fits))
+    (put-then (first .put-ending .ensures .0) (second .put-steps .ensures))
 
 returns-3 : tie.Need-returns-3
 unfolding textOf checkNumber
@@ -32,7 +41,8 @@ returns-3 c =
     let put = c .before .before in
     let told = put .before .before .before .before in
     let a = told .before .before .before .before .args in
-    printed (a .report) _ (now (a .trace)) (told .report3 .given .1) (put .put-line2 .ensures)
+    printed (a .report) _ (now (a .trace)) (told .report3 .given .1)
+    (number-is-short markFU refl _ (search needs) (length (now (a .trace)))) (put .put-line2 .ensures)
 
 returns-4 : tie.Need-returns-4
 unfolding textOf checkNumber
@@ -40,7 +50,8 @@ returns-4 c =
     let put = c .before .before in
     let told = put .before .before .before in
     let a = told .before .before .before .before .args in
-    printed (a .report) _ (now (a .trace)) (told .enum-told .given .1) (put .put-line3 .ensures)
+    printed (a .report) _ (now (a .trace)) (told .enum-told .given .1)
+    (number-is-short markNO refl _ (search needs) (length (now (a .trace)))) (put .put-line3 .ensures)
 
 returns-5 : tie.Need-returns-5
 unfolding textOf checkNumber
@@ -48,7 +59,8 @@ returns-5 c =
     let put = c .before .before in
     let told = put .before .before .before .before in
     let a = told .before .before .before .before .args in
-    printed (a .report) _ (now (a .trace)) (told .report4 .given .1) (put .put-line4 .ensures)
+    printed (a .report) _ (now (a .trace)) (told .report4 .given .1)
+    (number-is-short markNO refl _ (search needs) (length (now (a .trace)))) (put .put-line4 .ensures)
 
 pub text-spec : {M : Type 1} → statement M
 text-spec =
