@@ -7,3 +7,4 @@ pub mod Tracing
 pub mod Endings
 pub mod IndexKept
 pub mod Judging
+pub mod LongTrace

@@ -1,16 +1,40 @@
 -- What is printed: document 01, "The printing program".
-use Prim.Native.Nat.{ℕ, min}
+use Prim.Native.Nat.{ℕ, _+_, _*_, _≤_, _<_}
 use mathlib.Core.Path.{_≡_}
 use mathlib.Core.List.{List}
-use lib.ListN.{length}
+use lib.ListN.{length, take}
+use Rattle.limits.specs.Limits.{maxThreads, maxLines}
+use Rattle.program_bytes.specs.Format.{readProgram, sizePR, sizeTH, sizeIN}
 use Rattle.report.specs.declared.Report.{Report}
-use Rattle.report.specs.Text.{textOf, laid}
+use Rattle.report.specs.declared.Report.the-variants.{Short}
+use Rattle.report.specs.Text.{textOf, longestText}
 use Rattle.checker.specs.Checked.{Checked}
 
--- The text of a report that keeps all that the checker promises of it, laid in a lent buffer.
-pub record Printed (bytes : List ℕ) (tableLength : ℕ) (trace traceAtExit buffer bufferAtExit : List ℕ) (count : ℕ)
-    : Type 0 where
+-- The bytes of the longest program: a header, and as many threads and lines as there can be.
+abbrev pub longestProgram : ℕ
+longestProgram = sizePR + maxThreads * (sizeTH + maxLines * sizeIN)
+
+-- What is lent to the checker and to the printer, by the lengths of the slices.
+pub record Sizes (input kept table trace buffer : ℕ) : Type 0 where
+  -- The input's buffer holds more than the longest program, so that a longer input is judged by its front.
+  pub input-holds : longestProgram < input
+  pub kept-there : kept ≤ input
+  -- "with a table of 49,152 bytes and a trace of 4,096"
+  pub table-is : table ≡ 49152
+  pub trace-is : trace ≡ 4096
+  -- The longest text fits.
+  pub text-fits : longestText trace ≤ buffer
+
+-- The report on all of standard input, with all that the checker promises of it, and its text.
+pub record Printed (input lentTable table lentTrace trace text : List ℕ) : Type 0 where
   pub report : Report
-  pub checked : Checked bytes tableLength trace traceAtExit report
-  pub text : bufferAtExit ≡ laid (textOf report traceAtExit) buffer
-  pub counted : count ≡ min (length (textOf report traceAtExit)) (length buffer)
+  pub checked : Checked (readProgram input) lentTable table lentTrace trace report
+  -- The trace always has a byte for each step.
+  pub never-short : (wanted : ℕ) → report ≡ Short wanted → ⊥
+  -- The text is whole.
+  pub whole : text ≡ textOf report trace
+
+-- The same for every input whose front was kept in the buffer: nothing describes what is read from standard input.
+abbrev pub PrintedFor : (buffer : List ℕ) (kept : ℕ) (lentTable table lentTrace trace text : List ℕ) → Type 0
+PrintedFor buffer kept lentTable table lentTrace trace text =
+    (input : List ℕ) → take (length buffer) input ≡ take kept buffer → Printed input lentTable table lentTrace trace text

@@ -5,15 +5,12 @@ use libc::STDIN_FILENO;
 use libc::STDOUT_FILENO;
 use report::text;
 ghost use mathlib.Core.Path.{_≡_};
-ghost use lib.ListN.{length};
+ghost use Prim.Native.Nat.{_≤_};
+ghost use lib.ListN.{length, take};
 ghost use Rattle.io.specs.Counts.{Counts};
-ghost use Rattle.order_check.specs.Printed.{Printed};
+ghost use Rattle.order_check.specs.Printed.{Sizes, PrintedFor};
 
-// What is kept of standard input, the length of `io::buffer`: more than the longest program, of 3,613 bytes, so that a
-// longer input is judged by its front (the theorem longer-judged-by-front).
-const INPUT: usize = 4096;
-
-// "a table of 49,152 bytes and a trace of 4,096": the trace, too, is an `io::buffer`.
+// "a table of 49,152 bytes and a trace of 4,096": the trace is an `io::buffer`, and so is what is kept of standard input.
 const TABLE: usize = 49152;
 
 const TRACE: usize = 4096;
@@ -21,8 +18,14 @@ const TRACE: usize = 4096;
 // An index that has room for all places of the table: at most 1,890, of 26 bytes each, in half of its slots.
 const INDEX: usize = 4096;
 
-// Room for the longest text: a line of at most 93 bytes, and 7 for each byte of the trace (the theorem text-is-short).
-const TEXT: usize = 93 + 7 * TRACE;
+// Room for the longest text: a line of at most 76 bytes, and 7 for each byte of the trace.
+const TEXT: usize = 76 + 7 * TRACE;
+
+// What was kept of standard input, and whether its end was reached.
+pub struct Input {
+    pub ended: bool,
+    pub kept: usize,
+}
 
 fn table() -> [u8; TABLE]
     ensures { λ r. ⌜ 49152 ≡ length r ⌝ }
@@ -37,7 +40,7 @@ fn index() -> [u64; INDEX]
 }
 
 fn text_buffer() -> [u8; TEXT]
-    ensures { λ r. ⌜ 28765 ≡ length r ⌝ }
+    ensures { λ r. ⌜ 28748 ≡ length r ⌝ }
 {
     [0; TEXT]
 }
@@ -48,44 +51,60 @@ fn skip_some() -> isize {
     libc::read(STDIN_FILENO, &mut rest)
 }
 
-// Reads to the end of standard input, and says whether it was reached: not where a read fails, and not where more comes
-// though the input seemed to have ended before the buffer was full. Nothing says that an input ends, so the turns are
-// counted down from a number that no run uses up.
-fn skip_rest(is_full: bool) -> bool {
-    let mut turns = u64::MAX;
-    while turns > 0 {
-        let got = skip_some();
-        if got == 0 {
-            return true;
-        }
-        if got < 0 || !is_full {
-            return false;
-        }
-        turns = turns - 1;
+// One read of standard input, into the buffer behind the bytes that are kept while it has room: what `read` answered.
+fn read_on(buffer: &mut [u8], kept: usize) -> isize
+    requires { ⌜ kept ≤ length (now buffer) ⌝ }
+{
+    if kept < buffer.len() {
+        return libc::read(STDIN_FILENO, &mut buffer[kept..]);
     }
-    false
+    skip_some()
 }
 
-// Checks a program and lays the report's text in the buffer; how many bytes of it are text.
+// Reads standard input to its end, which one read tells, and keeps its front; a read that fails is no end. Nothing says
+// that an input ends, so the turns are counted down from a number that no run uses up.
+fn read_input(buffer: &mut [u8]) -> Input
+    ensures { λ r. ⌜ r .kept ≤ length (now (buffer .exit)) ⌝ }
+{
+    let mut kept: usize = 0;
+    let mut turns = u64::MAX;
+    while turns > 0 {
+        let got = read_on(buffer, kept);
+        if got <= 0 {
+            return Input {
+                ended: got == 0,
+                kept,
+            };
+        }
+        let more = io::count(got, &buffer[kept..]);
+        kept = kept + more;
+        turns = turns - 1;
+    }
+    Input { ended: false, kept }
+}
+
+// Checks the program that was kept and lays the report's text in the buffer; how many bytes of it are text.
 fn print(
-    program: &[u8],
+    input: &[u8],
+    kept: usize,
     places: &mut [u8],
     trace: &mut [u8],
     slots: &mut [u64],
     buffer: &mut [u8],
 ) -> usize
-    ensures printed { λ r. ⌜ Printed (now (program .entry)) (length (now (places .entry))) (now (trace .entry))
-        (now (trace .exit)) (now (buffer .entry)) (now (buffer .exit)) r ⌝ }
+    requires { ⌜ Sizes (length (now input)) kept (length (now places)) (length (now trace)) (length (now buffer)) ⌝ }
+    ensures printed { λ r. ⌜ PrintedFor (now (input .entry)) kept (now (places .entry)) (now (places .exit))
+        (now (trace .entry)) (now (trace .exit)) (take r (now (buffer .exit))) ⌝ }
     ensures counts { λ r. ⌜ Counts r (now (buffer .exit)) ⌝ }
 {
-    let report = check_indexed(program, places, trace, slots);
+    let report = check_indexed(&input[0..kept], places, trace, slots);
     text(report, trace, buffer)
 }
 
 fn main() {
     let mut input = io::buffer();
-    let n = io::read_full(STDIN_FILENO, &mut input);
-    if !skip_rest(n == INPUT) {
+    let read = read_input(&mut input);
+    if !read.ended {
         io::write_all(
             STDERR_FILENO,
             b"order_check: standard input can't be read to its end\n",
@@ -96,7 +115,14 @@ fn main() {
     let mut trace = io::buffer();
     let mut slots = index();
     let mut lines = text_buffer();
-    let length = print(&input[..n], &mut places, &mut trace, &mut slots, &mut lines);
+    let length = print(
+        &input,
+        read.kept,
+        &mut places,
+        &mut trace,
+        &mut slots,
+        &mut lines,
+    );
     if !io::write_all(STDOUT_FILENO, &lines[..length]) {
         io::write_all(
             STDERR_FILENO,
