@@ -21,7 +21,8 @@ drop-take (suc n) m (x ∷ l) = ap (λ (k : ℕ). drop (suc n) (take k (x ∷ l)
 
 pub drop-of-front : (size n : ℕ) (l : List ℕ) → size ≤ n → drop size (take n l) ≡ take (n - size) (drop size l)
 drop-of-front size n l h =
-    ap (λ (k : ℕ). drop size (take k l)) (let e : n ≡ size + (n - size) = omega arith in e) ∙ drop-take size (n - size) l
+    ap (λ (k : ℕ). drop size (take k l)) (let e : n ≡ size + (n - size) = omega arith in e)
+    ∙ drop-take size (n - size) l
 
 -- Stores leave alone what stands before them.
 pub take-sets : (n i : ℕ) (l vs : List ℕ) → n ≤ i → take n (sets l i vs) ≡ take n l

@@ -1,5 +1,5 @@
 -- Which member of a list stands before which: in lists put together, with one element put in, or made piece by piece.
-use mathlib.Core.Path.{_≡_, refl}
+use mathlib.Core.Path.{_≡_, refl, sym, _∙_}
 use mathlib.Core.List.{List, [], _∷_, _++_, flatMap, List·Memᴰ as Member, List·Memᴰ·head, List·Memᴰ·tail}
 use mathlib.Core.List.{List·Memᴰ·cases-cons, List·Memᴰ·not-nil, List·Memᴰ·append-cases}
 use mathlib.Core.Logic.{_⊎_, inl, inr, ⊎-elim}
@@ -55,6 +55,19 @@ module _ {A : Type 0} where
   precedes-put-in [] b m h = absurd (List·Memᴰ·not-nil h)
   precedes-put-in (c ∷ l) b m h =
       ⊎-elim (λ q. here q (member-put-in l b m)) (λ p. later (precedes-put-in l b m p)) (List·Memᴰ·cases-cons h)
+
+  -- Of two members one stands before the other, or they are one.
+  pub one-precedes : (l : List A) {a b : A} → Member a l → Member b l → (a ≡ b) ⊎ (Precedes a b l ⊎ Precedes b a l)
+  one-precedes [] m n = absurd (List·Memᴰ·not-nil m)
+  one-precedes (c ∷ l) {a} {b} m n = go (List·Memᴰ·cases-cons m) (List·Memᴰ·cases-cons n) (λ h k. one-precedes l h k)
+    where
+      go : (a ≡ c) ⊎ Member a l → (b ≡ c) ⊎ Member b l
+          → (Member a l → Member b l → (a ≡ b) ⊎ (Precedes a b l ⊎ Precedes b a l))
+          → (a ≡ b) ⊎ (Precedes a b (c ∷ l) ⊎ Precedes b a (c ∷ l))
+      go (inl q) (inl r) rest = inl (q ∙ sym r)
+      go (inl q) (inr k) rest = inr (inl (here q k))
+      go (inr h) (inl r) rest = inr (inr (here r h))
+      go (inr h) (inr k) rest = ⊎-elim inl (λ w. inr (⊎-elim (λ z. inl (later z)) (λ z. inr (later z)) w)) (rest h k)
 
   pub precedes-append-cases : (l m : List A) {a b : A} → Precedes a b (l ++ m)
       → Precedes a b l ⊎ (Precedes a b m ⊎ (Member a l × Member b m))
