@@ -10,7 +10,8 @@ use Rattle.lists.proofs.Places.{nothing-of-length-zero}
 use Rattle.program.specs.Program.{Line, Program}
 use Rattle.program_bytes.specs.Outcome.Outcome.{accepted}
 use Rattle.program_bytes.specs.Format.{markPR, sizePR, isRecord, endsAfter, readThreads, readProgram}
-use Rattle.program_bytes.specs.Spelling.{spellThreads, spell, Within}
+use Rattle.program_bytes.specs.Spelling.{spellThreads, spell}
+use Rattle.program.specs.Within.{Within}
 use Rattle.program_bytes.proofs.OutcomeLaws.{accepted-injective, check-passes, check-accepted}
 use Rattle.program_bytes.proofs.OutcomeLaws.{andThen-goes-on, andThen-accepted}
 use Rattle.program_bytes.proofs.RecordLaws.{record-found}

@@ -2,8 +2,8 @@
 use Prim.Native.Nat.{ℕ}
 use mathlib.Core.List.{List}
 use lib.ListN.{length}
 use Rattle.program.specs.Program.{Line, Program}
-use Rattle.program_bytes.specs.Spelling.{LineWithin, All, none, more, ThreadWithin, Within, Valid}
+use Rattle.program.specs.Within.{LineWithin, All, none, more, ThreadWithin, Within, Valid}
 
 each-line : {L K : ℕ} {threads : List (List Line)} → All (ThreadWithin L K) threads
     → All (λ (lines : List Line). All (LineWithin L K (length lines)) lines) threads
