@@ -1,24 +1,26 @@
 -- The line at a place of an accepted input, by its header.
 use Prim.Native.Nat.{ℕ, _+_, _*_, _<_, _≤_}
 use native.Mathlib.Omega.{arith}
-use mathlib.Core.Path.{_≡_, ap, sym, _∙_}
-use mathlib.Core.List.{List}
+use native.Mathlib.Nat.{zero-add}
+use mathlib.Core.Path.{_≡_, refl, ap, sym, _∙_}
+use mathlib.Core.List.{List, [], _∷_, _++_}
 use lib.ListN.{length, getD, drop, replicate, length-replicate, List·getD-append}
 use lib.Seq.{sets, sets-eq, getD-drop}
 use Rattle.limits.specs.Limits.{maxThreads}
-use Rattle.program.specs.Program.{Line, linesOf}
+use Rattle.program.specs.Program.{Line, Program, linesOf}
 use Rattle.program.specs.Program.Operand.{constant}
 use Rattle.program.specs.Program.Line.{wait}
+use Rattle.program_bytes.specs.Outcome.Outcome.{accepted}
 use Rattle.program_bytes.specs.Ops.{opAt}
-use Rattle.program_bytes.specs.Format.{sizePR, sizeIN, operand, programOf}
+use Rattle.program_bytes.specs.Format.{sizePR, sizeIN, operand, readProgram, programOf}
 use Rattle.program_bytes.specs.Layout.{startsFrom, startOf}
-use Rattle.program_bytes.proofs.RoundTrip.{accepted-is-spelling}
-use Rattle.program_bytes.proofs.Places.{LineStands, line-stands}
-use Rattle.program_bytes.proofs.StartLaws.{length-startsFrom}
 use Rattle.format.specs.Answer.{Accepted, headerOf}
 use Rattle.format.specs.Inner.{fieldsOf}
 use Rattle.format.specs.declared.Header.{Header}
 use Rattle.format.specs.declared.checks.Fields.{Fields}
+use Rattle.program_bytes.proofs.RoundTrip.{accepted-is-spelling}
+use Rattle.program_bytes.proofs.Places.{LineStands, line-stands}
+use Rattle.program_bytes.proofs.StartLaws.{length-startsFrom}
 
 -- What fills the front of a row of zeros is read there.
 pub front-of-row : (width : ℕ) (l : List ℕ) (t : ℕ) → t < length l → length l ≤ width → getD (sets

@@ -4,7 +4,7 @@ use native.Mathlib.Omega.{arith}
 use native.Mathlib.Numerals.{add-one}
 use mathlib.Core.Path.{_≡_, refl, ap, sym, subst, _∙_}
 use mathlib.Core.Bool.{Bool, true, false}
-use mathlib.Core.List.{List, _∷_, map}
+use mathlib.Core.List.{List, [], _∷_, map}
 use lib.ListN.{length, drop, set, length-drop}
 use lib.Seq.{sets, drop-drop}
 use lib.Dec.{eqb}
@@ -14,14 +14,14 @@ use Rattle.program_bytes.specs.Outcome.{Outcome, check, andThen}
 use Rattle.program_bytes.specs.Outcome.Outcome.{refused, accepted}
 use Rattle.program_bytes.specs.Format.{sizePR, sizeTH, sizeIN, readThread, readThreads, endsAfter}
 use Rattle.program_bytes.specs.Layout.{startsFrom, threadSize}
-use Rattle.program_bytes.proofs.OutcomeLaws.{andThen-goes-on}
-use Rattle.program_bytes.proofs.AcceptedThreads.{thread-read, threads-read}
 use Rattle.format.specs.Answer.{noHeader, refusal, reading, headerOf}
 use Rattle.format.specs.Inner.{threadOf}
 use Rattle.format.specs.declared.Check.the-variants.{Passed}
 use Rattle.format.specs.declared.Header.{Header}
 use Rattle.format.specs.declared.Reading.{Reading}
 use Rattle.format.specs.declared.threads.Thread.the-variants.{Lines, Faulty}
+use Rattle.program_bytes.proofs.OutcomeLaws.{andThen-goes-on, andThen-stops}
+use Rattle.program_bytes.proofs.AcceptedThreads.{thread-read, threads-read}
 
 -- A header with thread i's lines filled in.
 abbrev pub withThread : Header → (i start count : ℕ) → Header

@@ -1,7 +1,8 @@
 -- Laws of the op table.
 use Prim.Native.Nat.{ℕ, zero, suc, _-_}
 use native.Mathlib.Numerals.{sub-one}
-use mathlib.Core.Path.{_≡_, refl}
+use mathlib.Core.Path.{_≡_, refl, ap}
+use lib.ListN.{getD}
 use Rattle.program_bytes.specs.Ops.{opTable, opAt, sumOp}
 
 -- The ops of the table after the first, one by one.

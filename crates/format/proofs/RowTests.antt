@@ -6,10 +6,10 @@ use Rattle.limits.specs.Limits.{registers}
 use Rattle.program_bytes.specs.Ops.{opAt, Target as OpTarget}
 use Rattle.program_bytes.specs.Ops.Target.{noTarget, toLocation, toLine}
 use Rattle.program_bytes.specs.Format.{whenUsed, zeroUnlessUsed, usesTarget, isRegAndRest, isOperand, areOperands}
-use Prim.Native.Nat.{ℕ}
 use Rattle.format.specs.Inner.{targetMeans, targetOf, rowOf}
 use Rattle.format.specs.declared.checks.Fields.{Fields}
 use Rattle.format.specs.declared.checks.Row.{Row}
+use Prim.Native.Nat.{ℕ}
 
 pub target-back : (t : OpTarget) → targetMeans (targetOf t) ≡ t
 unfolding targetMeans targetOf

@@ -1,23 +1,25 @@
 -- The turns of the reader's loops: what one line, or one thread, does to the answer.
-use Prim.Native.Nat.{ℕ, zero, suc, _+_, _-_, _≤_, _<_}
+use Prim.Native.Nat.{ℕ, zero, suc, _+_, _-_, _*_, _≤_, _<_}
 use native.Mathlib.Omega.{arith}
-use mathlib.Core.Path.{_≡_, refl, ap, _∙_}
+use mathlib.Core.Path.{_≡_, refl, ap, sym, _∙_}
 use mathlib.Core.Bool.{true}
 use mathlib.Core.List.{List}
 use lib.ListN.{length, getD, drop, length-drop}
 use borrow.Author.Tests.{le-leb}
 use Rattle.limits.specs.Limits.{maxLines}
 use lib.Seq.{drop-drop, getD-drop}
+use Rattle.program.specs.Program.{Line}
 use Rattle.program_bytes.specs.Outcome.{Outcome, check, andThen}
 use Rattle.program_bytes.specs.Outcome.Outcome.{refused, accepted}
 use Rattle.program_bytes.specs.Format.{isRecord, markIN, markTH, sizeIN, sizeTH, fieldsToLine, readLine, readLines, readThread}
+use Rattle.format.specs.Inner.{checkOf, fieldsOf, threadOf}
+use Rattle.format.specs.declared.Check.{Check}
+use Rattle.format.specs.declared.Check.the-variants.{Passed, Failed}
+use Rattle.format.specs.declared.threads.Thread.the-variants.{Lines, Faulty}
 use Rattle.program_bytes.proofs.AcceptedThreads.{lines-read}
 use Rattle.program_bytes.proofs.OutcomeLaws.{andThen-goes-on, andThen-stops}
 use Rattle.program_bytes.proofs.RecordLaws.{record-stands}
 use Rattle.program_bytes.proofs.AcceptedLine.{line-read}
-use Rattle.format.specs.Inner.{checkOf, fieldsOf, threadOf}
-use Rattle.format.specs.declared.Check.the-variants.{Passed, Failed}
-use Rattle.format.specs.declared.threads.Thread.the-variants.{Lines, Faulty}
 
 module _ {A : Type 0} where
   -- The check of an outcome tells which it is.

@@ -12,11 +12,13 @@ use Rattle.program_bytes.specs.Outcome.{Outcome}
 use Rattle.program_bytes.specs.Outcome.Outcome.{refused, accepted}
 use Rattle.program_bytes.specs.Format.{readProgram, programOf}
 use Rattle.format.specs.Answer.{Accepted, reading}
-use Rattle.format.specs.declared.Check.the-variants.{Failed}
+use Rattle.format.specs.declared.Check.the-variants.{Passed, Failed}
 use Rattle.format.specs.declared.Header.{Header}
 use Rattle.format.specs.declared.Reading.{Reading}
 use Rattle.format.proofs.AcceptedHeader.{threads-counted, lines-counted}
 use Rattle.order_read_c.specs.Answer.{numberOf, withHeader, headerAnswer, noLine, lineFields, lineAnswer}
+use Rattle.order_read_c.specs.declared.HeaderAnswer.{HeaderAnswer}
+use Rattle.order_read_c.specs.declared.LineAnswer.{LineAnswer}
 
 header-of-outcome : (o : Outcome Program) → withHeader (numberOf (reading o .check))
     (reading o .header) ≡ headerAnswer o

@@ -24,3 +24,4 @@ pub mod ReadableExact
 pub mod TestWitness
 pub mod TestEnding
 pub mod TestNamed
+pub mod ThreadLists

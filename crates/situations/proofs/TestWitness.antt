@@ -25,14 +25,14 @@ use Rattle.model.proofs.Decidable.{dec-sc-reaches}
 use Rattle.model.proofs.Choices.{dec-readable}
 use Rattle.model.proofs.WellFormed.{WellFormed}
 use Rattle.model.proofs.Reachable.{Good, has-thread, access-not-ended, access-has-thread, access-has-location}
-use Rattle.model.proofs.StartsFirst.{nothing-precedes-start, nothing-sc-before-start}
-use Rattle.model.proofs.Below.{row-of-below}
 use Rattle.situations.specs.Situation.{known, readable, situationOf}
 use Rattle.situations.proofs.ReadableSink.{Seen}
 use Rattle.situations.proofs.ReadableRows.{row}
 use Rattle.situations.proofs.ReadableFamilies.{byThread}
 use Rattle.situations.proofs.Decisions.{member-decided}
 use Rattle.situations.proofs.Newest.{last-is-newest}
+use Rattle.model.proofs.StartsFirst.{nothing-precedes-start, nothing-sc-before-start}
+use Rattle.model.proofs.Below.{row-of-below}
 
 -- A witness as a situation shows it: thread t, its kind, its location x and the stale value u.
 pub record WitnessOn (p : Program) (q : Situation) (t : ℕ) (kind : Kind) (x u : ℕ) : Type 0 where

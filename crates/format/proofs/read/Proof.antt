@@ -80,6 +80,16 @@ returns-3 c =
 pub read-spec : {M : Type 1} → statement M
 read-spec =
     tie.close
-    (tie.spec (λ c. search needs) (λ c κs. search needs) (λ c κs. search needs) returns shared-slice-read-t
-    shared-slice-read-l shared-slice-read-k (λ c κs. search needs) (λ c κs. search needs) returns-2
-    read-threads-requires returns-3)
+    (tie.spec
+    (λ c. search needs)
+    (λ c κs. search needs)
+    (λ c κs. search needs)
+    returns
+    shared-slice-read-t
+    shared-slice-read-l
+    shared-slice-read-k
+    (λ c κs. search needs)
+    (λ c κs. search needs)
+    returns-2
+    read-threads-requires
+    returns-3)

@@ -88,6 +88,18 @@ returns-4 c =
 pub order-line-spec : {M : Type 1} → statement M
 order-line-spec =
     tie.close
-    (tie.spec (λ c κs. search needs) (λ c. search needs) (λ c κs. search needs) (λ c. search needs)
-    (λ c κs. search needs) returns mul-if2 array-read-if2 (λ c κs. search needs) returns-2 line-at-requires
-    (λ c κs. search needs) returns-3 returns-4)
+    (tie.spec
+    (λ c κs. search needs)
+    (λ c. search needs)
+    (λ c κs. search needs)
+    (λ c. search needs)
+    (λ c κs. search needs)
+    returns
+    mul-if2
+    array-read-if2
+    (λ c κs. search needs)
+    returns-2
+    line-at-requires
+    (λ c κs. search needs)
+    returns-3
+    returns-4)

@@ -5,9 +5,21 @@ use borrow.Author.Needs.{needs}
 use Rattle.format.proofs.checks.uses_target.Statement.{statement}
 use Rattle.format.proofs.checks.uses_target.Tie as tie
 
-pub uses-target-spec : {M : Type 1} → statement M
+returns : tie.Need-returns
 unfolding usesTarget targetMeans
+returns c =
+    rw (c .enum-told .given .1)
+
+returns-2 : tie.Need-returns-2
+unfolding usesTarget targetMeans
+returns-2 c =
+    rw (c .enum-told2 .given .1)
+
+returns-3 : tie.Need-returns-3
+unfolding usesTarget targetMeans
+returns-3 c =
+    rw (c .enum-told3 .given .1)
+
+pub uses-target-spec : {M : Type 1} → statement M
 uses-target-spec =
-    tie.close
-    (tie.spec (λ c. search needs) (λ c. search needs) (λ c. search needs) (λ c. rw (c .enum-told .given .1))
-    (λ c. rw (c .enum-told2 .given .1)) (λ c. rw (c .enum-told3 .given .1)))
+    tie.close (tie.spec (λ c. search needs) (λ c. search needs) (λ c. search needs) returns returns-2 returns-3)

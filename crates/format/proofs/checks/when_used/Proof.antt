@@ -3,6 +3,15 @@ use Rattle.program_bytes.specs.Format.{whenUsed}
 use Rattle.format.proofs.checks.when_used.Statement.{statement}
 use Rattle.format.proofs.checks.when_used.Tie as tie
 
-pub when-used-spec : {M : Type 1} → statement M
+returns : tie.Need-returns
 unfolding whenUsed
-when-used-spec = tie.close (tie.spec (λ c. rw (c .if1 .taken)) (λ c. rw (c .if1 .left)))
+returns c =
+    rw (c .if1 .taken)
+
+returns-2 : tie.Need-returns-2
+unfolding whenUsed
+returns-2 c =
+    rw (c .if1 .left)
+
+pub when-used-spec : {M : Type 1} → statement M
+when-used-spec = tie.close (tie.spec returns returns-2)

@@ -12,6 +12,11 @@ use borrow.Author.Needs.{needs}
 use Rattle.format.proofs.lines.check_line.Statement.{statement}
 use Rattle.format.proofs.lines.check_line.Tie as tie
 
+returns : tie.Need-returns
+unfolding readLine check checkOf
+returns c =
+    rw (sym (c .before .is-record .ensures) ∙ not-true _ (c .if1 .taken))
+
 fields-at-requires : tie.Need-fields-at-requires
 fields-at-requires c κs =
     let s = c .before .before .before .before in
@@ -28,9 +33,12 @@ returns-2 c =
     (c .before .before .before .is-record .ensures) ∙ not-false _ (c .before .before .if1 .left)))
 
 pub check-line-spec : {M : Type 1} → statement M
-unfolding readLine check checkOf
 check-line-spec =
     tie.close
-    (tie.spec (λ c. search needs) (λ c κs. search needs)
-    (λ c. rw (sym (c .before .is-record .ensures) ∙ not-true _ (c .if1 .taken)))
-    fields-at-requires (λ c κs. search needs) returns-2)
+    (tie.spec
+    (λ c. search needs)
+    (λ c κs. search needs)
+    returns
+    fields-at-requires
+    (λ c κs. search needs)
+    returns-2)

@@ -21,6 +21,10 @@ Inv-loop bytes at l k n next₀ left₀ next left =
 abbrev μ-loop : tie.MeasureT-loop
 μ-loop bytes at l k n next₀ left₀ next left = left
 
+loop-holds : tie.Need-loop-holds Inv-loop μ-loop
+loop-holds c =
+    (search needs, refl)
+
 returns : tie.Need-returns Inv-loop μ-loop
 returns c =
     let a = c .before .before .before .before .before .before .before .args in
@@ -64,5 +68,16 @@ returns-2 c =
 pub check-lines-spec : {M : Type 1} → statement M
 check-lines-spec =
     tie.close
-    (tie.spec Inv-loop μ-loop (λ c. (search needs, refl)) (λ c κs. search needs) (λ c. search needs) returns
-    (λ c. search needs) add-next (λ c. search needs) (λ c. search needs) loop-again returns-2)
+    (tie.spec
+    Inv-loop
+    μ-loop
+    loop-holds
+    (λ c κs. search needs)
+    (λ c. search needs)
+    returns
+    (λ c. search needs)
+    add-next
+    (λ c. search needs)
+    (λ c. search needs)
+    loop-again
+    returns-2)

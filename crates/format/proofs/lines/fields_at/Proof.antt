@@ -5,10 +5,23 @@ use borrow.Author.Needs.{needs}
 use Rattle.format.proofs.lines.fields_at.Statement.{statement}
 use Rattle.format.proofs.lines.fields_at.Tie as tie
 
-pub fields-at-spec : {M : Type 1} → statement M
+returns : tie.Need-returns
 unfolding fieldsOf
+returns c =
+    simp getD-drop
+
+pub fields-at-spec : {M : Type 1} → statement M
 fields-at-spec =
     tie.close
-    (tie.spec (λ c. search needs) (λ c. search needs) (λ c. search needs) (λ c. search needs) (λ c. search needs)
-    (λ c. search needs) (λ c. search needs) (λ c. search needs) (λ c. search needs) (λ c. search needs)
-    (λ c. simp getD-drop))
+    (tie.spec
+    (λ c. search needs)
+    (λ c. search needs)
+    (λ c. search needs)
+    (λ c. search needs)
+    (λ c. search needs)
+    (λ c. search needs)
+    (λ c. search needs)
+    (λ c. search needs)
+    (λ c. search needs)
+    (λ c. search needs)
+    returns)

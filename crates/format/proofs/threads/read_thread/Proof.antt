@@ -91,5 +91,17 @@ returns-4 c =
 pub read-thread-spec : {M : Type 1} → statement M
 read-thread-spec =
     tie.close
-    (tie.spec (λ c. search needs) (λ c κs. search needs) returns add-n shared-slice-read-n cast-if2 returns-2
-    add-check-lines check-lines-requires (λ c. search needs) (λ c. search needs) returns-3 returns-4)
+    (tie.spec
+    (λ c. search needs)
+    (λ c κs. search needs)
+    returns
+    add-n
+    shared-slice-read-n
+    cast-if2
+    returns-2
+    add-check-lines
+    check-lines-requires
+    (λ c. search needs)
+    (λ c. search needs)
+    returns-3
+    returns-4)

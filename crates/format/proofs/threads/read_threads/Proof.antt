@@ -53,6 +53,14 @@ add-header c =
     (sym (c .before .before .before .read-thread .ensures) ∙ c .before .thread2 .given .1) in
     omega (arith, p .0)
 
+mul-header : tie.Need-mul-header Inv-loop μ-loop
+mul-header c =
+    omega arith
+
+element-write-header : tie.Need-element-write-header Inv-loop μ-loop
+element-write-header c =
+    omega arith
+
 add-next : tie.Need-add-next Inv-loop μ-loop
 add-next c =
     let a = c .before .before .before .before .before .before .before .before .args in
@@ -101,7 +109,28 @@ returns-3 c =
 pub read-threads-spec : {M : Type 1} → statement M
 read-threads-spec =
     tie.close
-    (tie.spec Inv-loop μ-loop (λ c κs. search needs) loop-holds (λ c κs. search needs) (λ c. search needs)
-    (λ c κs. search needs) returns (λ c. search needs) (λ c. search needs) add-header (λ c. omega arith)
-    (λ c. omega arith) (λ c. search needs) (λ c. search needs) add-next (λ c. search needs) add-next-2
-    (λ c. search needs) (λ c. search needs) loop-again (λ c κs. search needs) returns-2 returns-3)
+    (tie.spec
+    Inv-loop
+    μ-loop
+    (λ c κs. search needs)
+    loop-holds
+    (λ c κs. search needs)
+    (λ c. search needs)
+    (λ c κs. search needs)
+    returns
+    (λ c. search needs)
+    (λ c. search needs)
+    add-header
+    mul-header
+    element-write-header
+    (λ c. search needs)
+    (λ c. search needs)
+    add-next
+    (λ c. search needs)
+    add-next-2
+    (λ c. search needs)
+    (λ c. search needs)
+    loop-again
+    (λ c κs. search needs)
+    returns-2
+    returns-3)
