@@ -8,7 +8,7 @@ use Rattle.limits.specs.Limits.{maxThreads}
 use Rattle.program.specs.Program.{Line, Program, linesOf}
 use Rattle.program_bytes.specs.Outcome.{Outcome}
 use Rattle.program_bytes.specs.Outcome.Outcome.{refused, accepted}
-use Rattle.program_bytes.specs.Spelling.{Within}
+use Rattle.program.specs.Within.{Within}
 use Rattle.program_bytes.specs.Format.{readProgram, programIn, programOf}
 use Rattle.format.specs.Answer.{Accepted, reading, headerOf}
 use Rattle.format.specs.declared.Check.the-variants.{Passed, Failed}

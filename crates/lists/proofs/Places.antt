@@ -26,6 +26,19 @@ module _ {A : Type 0} where
   place-past-end (b ∷ l) zero h = absurd (omega arith)
   place-past-end (b ∷ l) (suc i) h = place-past-end l i (omega arith)
 
+  pub place-has-entry : (l : List A) (i : ℕ) (d : A) → i < length l → getElem? l i ≡ some (getD l i d)
+  place-has-entry [] i d h = absurd (omega arith)
+  place-has-entry (b ∷ l) zero d h = refl
+  place-has-entry (b ∷ l) (suc i) d h = place-has-entry l i d (omega arith)
+
+  pub place-is-filled : (l : List A) (i : ℕ) → i < length l → (a : A) × (getElem? l i ≡ some a)
+  place-is-filled [] i h = absurd (omega arith)
+  place-is-filled (b ∷ l) i h = (getD (b ∷ l) i b, place-has-entry (b ∷ l) i b h)
+
+  pub nothing-of-length-zero : (l : List A) → length l ≡ 0 → l ≡ []
+  nothing-of-length-zero [] e = refl
+  nothing-of-length-zero (a ∷ l) e = absurd (omega arith)
+
   -- Two lists one after the other.
   pub place-kept : (l m : List A) (i : ℕ) {a : A} → getElem? l i ≡ some a → getElem? (l ++ m) i ≡ some a
   place-kept [] m i h = absurd (Option·none-ne-some _ h)

@@ -1,14 +1,13 @@
 -- What document 01 says of graphs in so many words, as facts about the definitions.
-use mathlib.Core.Path.{_≡_, refl}
+use mathlib.Core.Path.{refl}
 use mathlib.Core.List.{List, List·Memᴰ as Member}
-use mathlib.Core.Bool.{true, false}
 use Prim.Native.Nat.{ℕ}
 use Rattle.relations.specs.Closure.{Reaches, edge}
 use Rattle.program.specs.Program.{Program}
-use Rattle.program.specs.Thread.{Action, writing}
+use Rattle.program.specs.Thread.{Action}
 use Rattle.model.specs.Graph.{Id, Graph, threadEvents}
 use Rattle.model.specs.Order.{FromRead, fromRead, HappensBefore, ScOrder}
-use Rattle.model.specs.Run.{Allowed, startsWithUpdate}
+use Rattle.model.specs.Run.{Allowed}
 
 module _ {g : Graph} where
   -- "itself excepted"

@@ -11,8 +11,8 @@ use Rattle.relations.specs.Closure.{Precedes}
 use Rattle.relations.proofs.Precedes.{precedes-not-nil, precedes-not-single}
 use Rattle.lists.proofs.Places.{place-in-range}
 use Rattle.program.specs.Program.{Program, Line}
-use Rattle.model.specs.Graph.{Id, start, event, Event, writeE, eventsOf, order, eventAt, sourceOf, startGraph}
 use Rattle.relations.proofs.Laws.{first-edge}
+use Rattle.model.specs.Graph.{Id, start, event, Event, writeE, eventsOf, order, eventAt, sourceOf, startGraph}
 use Rattle.model.specs.Order.{ThreadOrder, starting, within, ModificationOrder, at, HappensEdge, threadOrder}
 use Rattle.model.specs.Order.{readsFrom, ScEdge, happensBefore, modificationOrder, fromRead, ScOrder}
 use Rattle.model.proofs.Lookup.{start-there, start-is, reading-event}

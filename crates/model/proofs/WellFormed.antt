@@ -9,13 +9,13 @@ use native.Mathlib.Omega.{arith}
 use lib.ListN.{length}
 use Rattle.relations.specs.Closure.{Precedes}
 use Rattle.program.specs.Thread.{Action, reads, writes, updates, writing}
+use Rattle.lists.proofs.Ends.{same-head}
 use Rattle.model.specs.Graph.{Id, start, Event, readE, writeE, updateE, Graph, order, eventAt, locationOf}
 use Rattle.model.specs.Graph.{sourceOf, nextId, eventOf}
 use Rattle.model.proofs.Lookup.{present-not-next}
 use Rattle.model.proofs.Growth.{Addition, in-order, newId, newEvent, grown, upToPicked, OrderAfter, unchanged}
 use Rattle.model.proofs.Growth.{putIn, order-after, member-stays, member-old-or-new, precedes-old-or-new}
 use Rattle.model.proofs.Growth.{event-stays, old-order, new-listed, new-there, there-old-or-new, locations-stay}
-use Rattle.lists.proofs.Ends.{same-head}
 
 -- The location that an event writes.
 unfoldable pub writesTo : Event → Option ℕ

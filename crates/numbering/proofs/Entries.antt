@@ -8,12 +8,13 @@ use mathlib.Core.Bool.{Bool, true, false, cond}
 use mathlib.Core.List.{List, [], _∷_, _++_, map, dropLast, map-map, IsPrefix}
 use mathlib.Core.Option.{Option, some, Option·elim, bind, Option·some-injective, Option·none-ne-some}
 use lib.ListN.{length, take, getElem?, length-map}
+use Rattle.lists.proofs.Places.{place-in-range, place-of-map}
+use Rattle.lists.proofs.Tests.{neither-true}
 use Rattle.numbering.specs.Schedule.{Schedule}
 use Rattle.numbering.specs.Numbering.{Visit, Entry, known, number, firsts, byOf, fromOf, entryOf, entries}
 use Rattle.numbering.specs.Queue.{first, queue, Steps, childTo}
 use Rattle.numbering.proofs.Fronts.{place-behind-front, taken-from-front, take-of-map}
-use Rattle.lists.proofs.Places.{place-in-range, place-of-map}
-use Rattle.numbering.proofs.Extend.{neither-true, known-image}
+use Rattle.numbering.proofs.Extend.{known-image}
 use Rattle.numbering.proofs.Firsts.{keyOf}
 use Rattle.numbering.proofs.Turns.{entryKey}
 use Rattle.numbering.proofs.Expansion.{visitOf}

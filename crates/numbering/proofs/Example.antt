@@ -7,6 +7,7 @@ use mathlib.Core.Bool.{cond}
 use mathlib.Core.List.{[], _∷_, flatMap, filterMap}
 use mathlib.Core.Option.{Option, none, some, Option·elim, bind, map-id}
 use lib.Dec.{eqb}
+use borrow.Author.Tests.{eq-eqb, eqb-true}
 use Rattle.numbering.specs.Schedule.{Schedule, threadsFrom, ofLength, upTo, after, situationAfter}
 use Rattle.numbering.specs.Numbering.{Entry, extend, known, keepUnless, number, visits, firsts, byOf, fromOf}
 use Rattle.numbering.specs.Numbering.{entryOf, entries}
@@ -14,7 +15,6 @@ use Rattle.numbering.specs.Verdict.{Verdict, found, full, closed, judged
 use Rattle.numbering.specs.Queue.{first, child, childrenBy, childrenAt, queue, Steps}
 use Rattle.numbering.proofs.Verdicts.{verdict-by-queue}
 use Rattle.numbering.proofs.Simulation.{steps-of-simulation}
-use borrow.Author.Tests.{eq-eqb, eqb-true}
 
 count : ℕ → ℕ → ℕ → Option ℕ
 count m zero a = some ((a + 1) % m)

@@ -8,12 +8,12 @@ use mathlib.Core.List.{List, [], _∷_, _++_, map, flatMap, filterMap, map-appen
 use mathlib.Core.Option.{Option, none, some, map-map as map-twice}
 use lib.ListN.{length, take, getElem?}
 use lib.Seq.{take-all}
+use Rattle.lists.proofs.Places.{place-empty}
+use Rattle.lists.proofs.Pieces.{pieces-of-append, pieces-of-one}
 use Rattle.numbering.specs.Schedule.{threads}
 use Rattle.numbering.specs.Numbering.{Visit, Entry, extend, visit}
 use Rattle.numbering.specs.Queue.{first, child, childrenBy, queue, childTo}
 use Rattle.numbering.proofs.Fronts.{one-more-in-front}
-use Rattle.lists.proofs.Places.{place-empty}
-use Rattle.lists.proofs.Pieces.{pieces-of-append, pieces-of-one}
 use Rattle.numbering.proofs.Extend.{extend-append, extend-image}
 use Rattle.numbering.proofs.Visits.{kids}
 use Rattle.numbering.proofs.Firsts.{keyOf, expanded}

@@ -9,12 +9,13 @@ use mathlib.Core.List.{List, [], _∷_, _++_, IsPrefix, List·Memᴰ as Member, 
 use mathlib.Core.List.{List·Memᴰ·append-cases, Memᴰ·append-right}
 use mathlib.Core.Option.{Option, some, Option·none-ne-some}
 use lib.ListN.{length, take, getElem?}
+use Rattle.lists.proofs.Places.{place-in-range, place-of-member}
+use Rattle.lists.proofs.Tests.{not-both}
 use Rattle.numbering.specs.Schedule.{Schedule, Earlier}
 use Rattle.numbering.specs.Numbering.{Visit, extend, visits, firsts, FirstSchedule, visit}
 use Rattle.numbering.specs.Queue.{Steps}
 use Rattle.numbering.proofs.Fronts.{place-behind-front, taken-from-front}
-use Rattle.lists.proofs.Places.{place-in-range, place-of-member}
-use Rattle.numbering.proofs.Extend.{Known, Added, old-or-added, not-both, member-is-known, offered-is-known}
+use Rattle.numbering.proofs.Extend.{Known, Added, old-or-added, member-is-known, offered-is-known}
 use Rattle.numbering.proofs.Extend.{known-member}
 use Rattle.numbering.proofs.Schedules.{Ascending, later-in-order, not-earlier-both-ways}
 use Rattle.numbering.proofs.Visits.{visit-is-run, run-is-visit, visits-in-order}

@@ -15,6 +15,5 @@ pub mod Table
 pub mod Prefixes
 pub mod Verdicts
 pub mod Search
-pub mod Images
 pub mod Simulation
 pub mod Example

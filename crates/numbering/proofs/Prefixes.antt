@@ -7,18 +7,18 @@ use mathlib.Core.Bool.{Bool}
 use mathlib.Core.List.{List, [], _∷_, _++_, map}
 use mathlib.Core.Option.{Option, some}
 use lib.ListN.{length, take, getElem?, length-append}
+use Rattle.lists.proofs.Places.{place-in-map, place-of-map, place-taken}
+use Rattle.lists.proofs.Ends.{same-last}
 use Rattle.numbering.specs.Schedule.{Schedule}
 use Rattle.numbering.specs.Numbering.{Visit, Entry, firsts, entries, FirstSchedule, visit}
 use Rattle.numbering.specs.Queue.{first, queue, Steps}
 use Rattle.numbering.proofs.Fronts.{front-taken, place-behind-front}
-use Rattle.lists.proofs.Places.{place-in-map, place-of-map, place-taken}
 use Rattle.numbering.proofs.Firsts.{firsts-front}
 use Rattle.numbering.proofs.FirstSchedules.{place-has-first-schedule, first-schedule-placed}
 use Rattle.numbering.proofs.Expansion.{visitOf}
 use Rattle.numbering.proofs.Numbered.{table-in-firsts, same-first-visits}
 use Rattle.numbering.proofs.Origins.{Parent, Rooted, rooted-front, queue-rooted}
 use Rattle.numbering.proofs.Entries.{entries-by-queue}
-use Rattle.lists.proofs.Ends.{same-last}
 
 module _ {A : Type 0} {same : A → A → Bool} {T : ℕ} {reached : Schedule → Option A} {start : A}
     {step : ℕ → A → Option A} (laws : Steps same T reached start step) where

@@ -10,12 +10,13 @@ use mathlib.Core.List.{List, [], _∷_, _++_, map, reverse, reverse-append, map-
 use mathlib.Core.List.{List·Memᴰ·not-nil, List·Memᴰ·eq-of-singleton, List·Memᴰ·append-cases}
 use mathlib.Core.Option.{Option, some, Option·some-injective}
 use lib.ListN.{length, take, getElem?, length-append}
+use Rattle.lists.proofs.Places.{member-at-place, place-taken}
+use Rattle.lists.proofs.Tests.{not-both}
 use Rattle.numbering.specs.Schedule.{Schedule}
 use Rattle.numbering.specs.Numbering.{Entry}
 use Rattle.numbering.specs.Queue.{first, queue, Steps}
 use Rattle.numbering.specs.Back.{Back, arrived, further}
-use Rattle.lists.proofs.Places.{member-at-place, place-taken}
-use Rattle.numbering.proofs.Extend.{Known, not-both, member-is-known}
+use Rattle.numbering.proofs.Extend.{Known, member-is-known}
 use Rattle.numbering.proofs.Turns.{entryKey}
 use Rattle.numbering.proofs.Origins.{Parent, Rooted, along-parents, placed}
 

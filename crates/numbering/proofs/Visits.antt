@@ -11,11 +11,11 @@ use mathlib.Core.List.{List·Memᴰ as Member, List·Memᴰ·not-nil, List·Mem�
 use mathlib.Core.Option.{Option, none, some, Option·map, Option·elim, bind, map-eq-some-iff, bind-eq-some-iff}
 use mathlib.Core.Option.{Option·none-ne-some}
 use lib.ListN.{length}
+use Rattle.lists.proofs.Ends.{from-the-end}
 use Rattle.numbering.specs.Schedule.{Schedule, threads, upTo, ofLength, Earlier}
 use Rattle.numbering.specs.Numbering.{Visit, visit, visits}
 use Rattle.numbering.specs.Queue.{Steps}
 use Rattle.numbering.proofs.Kept.{kept-from, kept-of, kept-alike, none-kept}
-use Rattle.lists.proofs.Ends.{from-the-end}
 use Rattle.numbering.proofs.Schedules.{Ascending, ascending-kept, thread-in-range, every-schedule}
 use Rattle.numbering.proofs.Schedules.{schedules-in-order, followed, schedules-step-by-step}
 

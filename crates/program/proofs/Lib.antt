@@ -1,2 +1,5 @@
 pub mod NextLines
 pub mod EachOp
+pub mod AllLaws
+pub mod ValidLaws
+pub mod Bounds

@@ -1,24 +1,18 @@
 -- What document 01 says of next lines in so many words, as facts about the definition.
-use Prim.Native.Nat.{ℕ, zero, suc, _≤_}
-use native.Mathlib.Omega.{arith}
-use mathlib.Core.Path.{_≡_, refl}
-use mathlib.Core.List.{List, [], _∷_}
+use Prim.Native.Nat.{ℕ, _≤_}
+use mathlib.Core.Path.{_≡_}
 use mathlib.Core.Option.{Option, none, some}
-use lib.ListN.{length, getElem?}
+use lib.ListN.{length}
 use borrow.Author.Tests.{eq-eqb, ne-eqb}
-use Rattle.program.specs.Program.{Operand, Line, Program, linesOf, cas, wait, bcas, jump}
-use Rattle.program.specs.Thread.{ThreadState, operand, onward, load, goto, Action, reads, updates, Effect}
+use Rattle.lists.proofs.Places.{place-past-end}
+use Rattle.program.specs.Program.{Operand, Program, linesOf, cas, wait, bcas, jump}
+use Rattle.program.specs.Thread.{ThreadState, operand, load, goto, reads, updates, Effect}
 use Rattle.program.specs.Thread.{NextLine, ended, local, access, does, doesAt, nextLine}
-
-past-end : {A : Type 0} (l : List A) (i : ℕ) → length l ≤ i → getElem? l i ≡ none
-past-end [] i h = refl
-past-end (a ∷ l) zero h = absurd (omega arith)
-past-end (a ∷ l) (suc i) h = past-end l i (omega arith)
 
 -- "a thread at its line n has none"
 pub no-line-at-the-end : (p : Program) (t : ℕ) (s : ThreadState) → length (linesOf p t) ≤ s .line → nextLine p t s ≡ ended
 unfolding nextLine doesAt
-no-line-at-the-end p t s h = rw (past-end (linesOf p t) (s .line) h)
+no-line-at-the-end p t s h = rw (place-past-end (linesOf p t) (s .line) h)
 
 -- What an access does when it picks a write of value u.
 unfoldable pub effectAt : NextLine → ℕ → Option Effect

@@ -14,7 +14,8 @@ use Rattle.program_bytes.specs.Outcome.Outcome.{accepted}
 use Rattle.program_bytes.specs.Ops.{isOp, opAt}
 use Rattle.program_bytes.specs.Format.{markIN, sizeIN, isRecord, isOperand, operand, whenUsed, zeroUnlessUsed}
 use Rattle.program_bytes.specs.Format.{usesTarget, isRegAndRest, isTarget, areOperands, fieldsToLine, readLine}
-use Rattle.program_bytes.specs.Spelling.{lineRecord, spellLine, LineWithin}
+use Rattle.program_bytes.specs.Spelling.{lineRecord, spellLine}
+use Rattle.program.specs.Within.{LineWithin}
 use Rattle.program_bytes.proofs.OutcomeLaws.{accepted-injective, check-accepted, andThen-accepted}
 use Rattle.program_bytes.proofs.RecordLaws.{record-stands}
 use Rattle.program_bytes.proofs.FieldLaws.{operand-within, field-kept, operand-kept, when-used}

@@ -11,9 +11,10 @@ use Rattle.limits.specs.Limits.{maxLines}
 use Rattle.program.specs.Program.{Line}
 use Rattle.program_bytes.specs.Outcome.Outcome.{accepted}
 use Rattle.program_bytes.specs.Format.{markTH, sizeTH, sizeIN, isRecord, readLines, readThread, readThreads}
-use Rattle.program_bytes.specs.Spelling.{spellLine, spellLines, spellThread, spellThreads, LineWithin, ThreadWithin}
-use Rattle.program_bytes.specs.Spelling.{All}
-use Rattle.program_bytes.specs.Spelling.All.{none, more}
+use Rattle.program_bytes.specs.Spelling.{spellLine, spellLines, spellThread, spellThreads}
+use Rattle.program.specs.Within.{LineWithin, ThreadWithin}
+use Rattle.program.specs.Within.{All}
+use Rattle.program.specs.Within.All.{none, more}
 use Rattle.program_bytes.proofs.OutcomeLaws.{accepted-injective, check-accepted}
 use Rattle.program_bytes.proofs.PartsLaws.{more-accepted}
 use Rattle.program_bytes.proofs.RecordLaws.{record-stands}

@@ -10,7 +10,8 @@ use Rattle.limits.specs.Limits.{registers}
 use Rattle.program.specs.Program.{Operand}
 use Rattle.program.specs.Program.Operand.{constant, register}
 use Rattle.program_bytes.specs.Format.{firstRegister, isOperand, operand, whenUsed, zeroUnlessUsed}
-use Rattle.program_bytes.specs.Spelling.{operandByte, OperandWithin}
+use Rattle.program_bytes.specs.Spelling.{operandByte}
+use Rattle.program.specs.Within.{OperandWithin}
 
 -- A byte in range that is no constant is a register's.
 register-in-range : (K x : ℕ) → isOperand K x ≡ true → ltb x K ≡ false

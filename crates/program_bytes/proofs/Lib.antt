@@ -4,7 +4,6 @@ pub mod FrontLaws
 pub mod RecordLaws
 pub mod FieldLaws
 pub mod RowLaws
-pub mod AllLaws
 pub mod SpellingLength
 pub mod HeaderLaws
 pub mod AcceptedLine
@@ -16,6 +15,4 @@ pub mod Refusals
 pub mod StartLaws
 pub mod Places
 pub mod Cases
-pub mod Bounds
-pub mod ValidLaws
 pub mod Longer

@@ -8,8 +8,9 @@ use native.Mathlib.Decide.{decLe}
 use native.Mathlib.Omega.{arith}
 use lib.Dec.{leb, eqb, eqb·suc-zero}
 use lib.ListN.{length, getD, take, drop, length-take}
-use lib.Seq.{take-nil, getD-take}
+use lib.Seq.{getD-take}
 use borrow.Author.Tests.{leb-true, le-leb, lt-leb}
+use Rattle.lists.proofs.Stores.{drop-of-front}
 use Rattle.limits.specs.Limits.{maxThreads, maxLines}
 use Rattle.program.specs.Program.{Line}
 use Rattle.program_bytes.specs.Outcome.{Outcome, check, andThen}
@@ -48,15 +49,6 @@ record-of-front : (mark : List ℕ) (size n : ℕ) (bytes : List ℕ) → length
 unfolding isRecord
 record-of-front mark size n bytes marked whole =
     ap₂ _&&_ (length-of-front size n bytes whole) (mark-of-front mark n bytes marked)
-
--- What follows in the front is the front of what follows.
-rest-of-front : (size n : ℕ) (bytes : List ℕ) → size ≤ n → drop size (take n bytes) ≡ take (n - size) (drop size bytes)
-rest-of-front zero n bytes h = ap (λ (k : ℕ). take k bytes) (let e : n ≡ n - 0 = omega arith in e)
-rest-of-front (suc size) zero bytes h = absurd (omega arith)
-rest-of-front (suc size) (suc n) [] h = sym (take-nil (suc n - suc size))
-rest-of-front (suc size) (suc n) (b ∷ bytes) h =
-    rest-of-front size n bytes (omega arith)
-    ∙ ap (λ (k : ℕ). take k (drop size bytes)) (let e : n - size ≡ suc n - suc size = omega arith in e)
 
 -- What a front and the whole input give: the same refusal, or the same part and, of what follows it, a front that is
 -- not cut before so many bytes.
@@ -105,7 +97,7 @@ module _ (L K : ℕ) where
         getD-take n bytes 4 0 (omega arith),
         getD-take n bytes 5 0 (omega arith),
         getD-take n bytes 6 0 (omega arith),
-        rest-of-front sizeIN n bytes (omega arith),
+        drop-of-front sizeIN n bytes (omega arith),
       )
       (check-alike 3 (isRecord markIN sizeIN bytes)
       (λ due. part-alike (fieldsToLine L K lines (getD bytes 2 0) (getD bytes 3 0) (getD bytes 4 0) (getD bytes 5 0)
@@ -128,7 +120,7 @@ module _ (L K : ℕ) where
       rw (
         record-of-front markTH sizeTH n bytes (omega arith) (omega arith),
         getD-take n bytes 2 0 (omega arith),
-        rest-of-front sizeTH n bytes (omega arith),
+        drop-of-front sizeTH n bytes (omega arith),
       )
       (check-alike 3 (isRecord markTH sizeTH bytes)
       (λ due. check-alike 4 (leb lines maxLines)
@@ -178,7 +170,7 @@ longer-judged-by-front n bytes h =
       getD-take n bytes 2 0 (omega arith),
       getD-take n bytes 3 0 (omega arith),
       getD-take n bytes 4 0 (omega arith),
-      rest-of-front sizePR n bytes (omega arith),
+      drop-of-front sizePR n bytes (omega arith),
     )
     (check-same 1 (isRecord markPR sizePR bytes)
     (λ due. check-same 2 (areInRange T L K)

@@ -1,8 +1,7 @@
--- Laws of Outcome: what check and andThen come to, and what an accepted or a refused outcome says of their parts.
+-- Laws of Outcome: what check and andThen come to, and what an accepted outcome says of their parts.
 use Prim.Native.Nat.{ℕ}
 use mathlib.Core.Bool.{Bool, true, false}
-use mathlib.Core.Logic.{_⊎_, inl, inr}
-use mathlib.Core.Path.{_≡_, refl, sym, ap}
+use mathlib.Core.Path.{_≡_, refl}
 use native.Mathlib.Omega.{arith}
 use Rattle.program_bytes.specs.Outcome.{Outcome, check, andThen}
 use Rattle.program_bytes.specs.Outcome.Outcome.{refused, accepted}
@@ -11,9 +10,6 @@ module _ {A : Type 0} where
   pub accepted-injective : {a b : A} → accepted a ≡ accepted b → a ≡ b
   accepted-injective e = cc
 
-  pub refused-injective : {j k : ℕ} → _≡_ {A = Outcome A} (refused j) (refused k) → j ≡ k
-  refused-injective e = cc
-
   pub refused-is-not-accepted : {k : ℕ} {a : A} → refused k ≡ accepted a → ⊥
   refused-is-not-accepted e = let z : _≡_ {A = ℕ} 0 1 = cc in omega arith
 
@@ -21,21 +17,11 @@ module _ {A : Type 0} where
   unfolding check
   check-passes k b rest e = rw e
 
-  pub check-fails : (k : ℕ) (b : Bool) (rest : Outcome A) → b ≡ false → check k b rest ≡ refused k
-  unfolding check
-  check-fails k b rest e = rw e
-
   pub check-accepted : (k : ℕ) (b : Bool) (rest : Outcome A) {a : A}
       → check k b rest ≡ accepted a → (b ≡ true) × (rest ≡ accepted a)
   unfolding check
   check-accepted k true rest e = (refl, e)
   check-accepted k false rest e = absurd (refused-is-not-accepted e)
-
-  pub check-refused : (k : ℕ) (b : Bool) (rest : Outcome A) {j : ℕ}
-      → check k b rest ≡ refused j → ((b ≡ false) × (j ≡ k)) ⊎ ((b ≡ true) × (rest ≡ refused j))
-  unfolding check
-  check-refused k true rest e = inr (refl, e)
-  check-refused k false rest e = inl (refl, sym (refused-injective e))
 
 module _ {A B : Type 0} where
   pub andThen-goes-on : (o : Outcome A) (f : A → Outcome B) {a : A} → o ≡ accepted a → andThen o f ≡ f a
@@ -51,16 +37,3 @@ module _ {A B : Type 0} where
   unfolding andThen
   andThen-accepted (accepted a) f e = (a, refl, e)
   andThen-accepted (refused k) f e = absurd (refused-is-not-accepted e)
-
-  pub andThen-refused : (o : Outcome A) (f : A → Outcome B) {k : ℕ}
-      → andThen o f ≡ refused k → (o ≡ refused k) ⊎ ((a : A) × (o ≡ accepted a) × (f a ≡ refused k))
-  unfolding andThen
-  andThen-refused (accepted a) f e = inr (a, refl, e)
-  andThen-refused (refused k) f e = inl (ap refused (refused-injective e))
-
-module _ {A B C : Type 0} where
-  pub andThen-assoc : (o : Outcome A) (f : A → Outcome B) (g : B → Outcome C)
-      → andThen (andThen o f) g ≡ andThen o (λ a. andThen (f a) g)
-  unfolding andThen
-  andThen-assoc (accepted a) f g = refl
-  andThen-assoc (refused k) f g = refl

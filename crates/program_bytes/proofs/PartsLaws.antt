@@ -1,11 +1,11 @@
 -- Parts read one after another: the step of readLines and of readThreads.
 use Prim.Native.Nat.{ℕ}
 use mathlib.Core.List.{List, _∷_}
-use mathlib.Core.Path.{_≡_, ap, _∙_}
+use mathlib.Core.Path.{_≡_, _∙_}
 use Rattle.program_bytes.specs.Outcome.{Outcome, andThen}
-use Rattle.program_bytes.specs.Outcome.Outcome.{refused, accepted}
+use Rattle.program_bytes.specs.Outcome.Outcome.{accepted}
 use Rattle.program_bytes.proofs.OutcomeLaws.{accepted-injective}
-use Rattle.program_bytes.proofs.OutcomeLaws.{andThen-goes-on, andThen-stops, andThen-accepted, andThen-assoc}
+use Rattle.program_bytes.proofs.OutcomeLaws.{andThen-goes-on, andThen-accepted}
 
 -- One part and then the others, each read with the bytes after it.
 abbrev pub readMore : {A : Type 0} → Outcome (A × List ℕ) → (List ℕ → Outcome (List A × List ℕ))
@@ -31,14 +31,3 @@ module _ {A : Type 0} (one : Outcome (A × List ℕ)) (others : List ℕ → Out
       → others mid ≡ accepted (parts, rest)
       → readMore one others ≡ accepted (a ∷ parts, rest)
   more-read at-first at-others = andThen-goes-on one _ at-first ∙ andThen-goes-on _ _ at-others
-
-  -- What follows the parts, once the first one is read, or refused.
-  module _ {B : Type 0} (f : List A × List ℕ → Outcome B) where
-    pub more-goes-on : {a : A} {mid : List ℕ} → one ≡ accepted (a, mid)
-        → andThen (readMore one others) f ≡ andThen (others mid) (λ more. f (a ∷ more .0, more .1))
-    unfolding andThen
-    more-goes-on at-first =
-        ap (λ o. andThen o f) (andThen-goes-on one _ at-first) ∙ andThen-assoc (others _) _ f
-
-    pub more-stops : {k : ℕ} → one ≡ refused k → andThen (readMore one others) f ≡ refused k
-    more-stops at-first = andThen-stops (readMore one others) f (andThen-stops one _ at-first)

@@ -10,9 +10,9 @@ use Rattle.program.specs.Program.{Line, Program, linesOf}
 use Rattle.program_bytes.specs.Outcome.Outcome.{accepted}
 use Rattle.program_bytes.specs.Format.{sizePR, sizeTH, sizeIN, readLine, readProgram}
 use Rattle.program_bytes.specs.Spelling.{spellLine, spellLines, spellThread, spellThreads, spell}
-use Rattle.program_bytes.specs.Spelling.{LineWithin}
+use Rattle.program.specs.Within.{LineWithin}
 use Rattle.program_bytes.specs.Layout.{threadSize, startsFrom, startOf}
-use Rattle.program_bytes.proofs.AllLaws.{all-at}
+use Rattle.program.proofs.AllLaws.{all-at}
 use Rattle.program_bytes.proofs.SpellingLength.{length-spellLine, length-spellThread}
 use Rattle.program_bytes.proofs.AcceptedLine.{FieldsRead, line-read}
 use Rattle.program_bytes.proofs.SpelledLine.{read-line}

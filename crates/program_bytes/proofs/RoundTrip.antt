@@ -6,10 +6,12 @@ use mathlib.Core.Path.{_≡_, refl, sym, ap, ap₂, subst, _∙_}
 use native.Mathlib.Omega.{arith}
 use lib.ListN.{length, getD, drop}
 use borrow.Author.Tests.{eqb-true}
+use Rattle.lists.proofs.Places.{nothing-of-length-zero}
 use Rattle.program.specs.Program.{Line, Program}
 use Rattle.program_bytes.specs.Outcome.Outcome.{accepted}
 use Rattle.program_bytes.specs.Format.{markPR, sizePR, isRecord, endsAfter, readThreads, readProgram}
-use Rattle.program_bytes.specs.Spelling.{spellThreads, spell, Within}
+use Rattle.program_bytes.specs.Spelling.{spellThreads, spell}
+use Rattle.program.specs.Within.{Within}
 use Rattle.program_bytes.proofs.OutcomeLaws.{accepted-injective, check-passes, check-accepted}
 use Rattle.program_bytes.proofs.OutcomeLaws.{andThen-goes-on, andThen-accepted}
 use Rattle.program_bytes.proofs.RecordLaws.{record-found}
@@ -40,11 +42,6 @@ read-spelling p h =
     ∙ andThen-goes-on _ _ (to-the-end ∙ threads)
     ∙ check-passes _ _ _ refl
 
--- A list of length 0 is empty.
-empty : (bytes : List ℕ) → length bytes ≡ 0 → bytes ≡ []
-empty [] e = refl
-empty (b ∷ bytes) e = absurd (omega arith)
-
 -- Threads in range, up to the end of the input, are the spelling of a program within the limits.
 program-spelled : (bytes : List ℕ) {threads : List (List Line)} {rest : List ℕ}
     → isRecord markPR sizePR bytes ≡ true
@@ -55,7 +52,7 @@ program-spelled : (bytes : List ℕ) {threads : List (List Line)} {rest : List �
     (bytes ≡ spell p) × Within p
 unfolding spell
 program-spelled bytes {threads} {rest} due range read ended =
-    let to-the-end = ap (λ l. spellThreads threads ++ l) (empty rest ended) ∙ append-nil (spellThreads threads) in (
+    let to-the-end = ap (λ l. spellThreads threads ++ l) (nothing-of-length-zero rest ended) ∙ append-nil (spellThreads threads) in (
       program-record-stands bytes due
           ∙ ap₂ (λ count l. markPR ++ count ∷ getD bytes 3 0 ∷ getD bytes 4 0 ∷ l)
           (sym (read .counted))

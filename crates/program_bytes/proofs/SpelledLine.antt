@@ -14,7 +14,8 @@ use Rattle.program_bytes.specs.Outcome.Outcome.{accepted}
 use Rattle.program_bytes.specs.Ops.{isOp, opAt, opTable, sumOp}
 use Rattle.program_bytes.specs.Format.{markIN, sizeIN, operand, usesTarget, zeroUnlessUsed, whenUsed}
 use Rattle.program_bytes.specs.Format.{isRegAndRest, isTarget, areOperands, fieldsToLine, readLine}
-use Rattle.program_bytes.specs.Spelling.{operandByte, lineRecord, spellLine, OperandWithin, LineWithin}
+use Rattle.program_bytes.specs.Spelling.{operandByte, lineRecord, spellLine}
+use Rattle.program.specs.Within.{OperandWithin, LineWithin}
 use Rattle.program_bytes.proofs.OutcomeLaws.{check-passes, andThen-goes-on}
 use Rattle.program_bytes.proofs.RecordLaws.{record-found}
 use Rattle.program_bytes.proofs.FieldLaws.{operand-byte-in-range, operand-read, passes-when-used}

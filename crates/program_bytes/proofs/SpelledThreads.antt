@@ -9,8 +9,9 @@ use Rattle.limits.specs.Limits.{minValues, maxValues, maxLines}
 use Rattle.program.specs.Program.{Line}
 use Rattle.program_bytes.specs.Outcome.Outcome.{accepted}
 use Rattle.program_bytes.specs.Format.{markTH, sizeTH, readLines, readThread, readThreads}
-use Rattle.program_bytes.specs.Spelling.{spellLine, spellLines, spellThread, spellThreads, LineWithin, ThreadWithin, All}
-use Rattle.program_bytes.specs.Spelling.All.{none, more}
+use Rattle.program_bytes.specs.Spelling.{spellLine, spellLines, spellThread, spellThreads}
+use Rattle.program.specs.Within.{LineWithin, ThreadWithin, All}
+use Rattle.program.specs.Within.All.{none, more}
 use Rattle.program_bytes.proofs.OutcomeLaws.{check-passes}
 use Rattle.program_bytes.proofs.PartsLaws.{more-read}
 use Rattle.program_bytes.proofs.RecordLaws.{record-found}

@@ -9,8 +9,9 @@ use Rattle.limits.specs.Limits.{maxThreads, maxLines}
 use Rattle.program.specs.Program.{Line, Program}
 use Rattle.program_bytes.specs.Outcome.Outcome.{accepted}
 use Rattle.program_bytes.specs.Format.{sizePR, sizeTH, sizeIN, readProgram}
-use Rattle.program_bytes.specs.Spelling.{spellThread, spellThreads, spell, ThreadWithin, All}
-use Rattle.program_bytes.specs.Spelling.All.{none, more}
+use Rattle.program_bytes.specs.Spelling.{spellThread, spellThreads, spell}
+use Rattle.program.specs.Within.{ThreadWithin, All}
+use Rattle.program.specs.Within.All.{none, more}
 use Rattle.program_bytes.specs.Layout.{threadSize, startsFrom, startOf}
 use Rattle.program_bytes.proofs.SpellingLength.{length-spellThread}
 use Rattle.program_bytes.proofs.RoundTrip.{accepted-is-spelling}

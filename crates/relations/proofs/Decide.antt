@@ -4,8 +4,8 @@ use mathlib.Core.Path.{_≡_, refl, sym, ap, subst, subst₂}
 use mathlib.Core.List.{List, [], _∷_, _++_, head-eq-of-cons-eq, tail-eq-of-cons-eq, List·Memᴰ as Member, List·Memᴰ·head}
 use mathlib.Core.List.{List·Memᴰ·tail, List·Memᴰ·cases-cons, List·Memᴰ·not-nil, cons≢nil}
 use mathlib.Core.Logic.{_⊎_, inl, inr, ⊎-elim}
-use Rattle.relations.specs.Closure.{Relation, Closure, edge, further, IsOrBefore, Reaches, Precedes, here, later}
 use Rattle.lists.proofs.Ends.{split-not-nil}
+use Rattle.relations.specs.Closure.{Relation, Closure, edge, further, IsOrBefore, Reaches, Precedes, here, later}
 use Rattle.relations.proofs.Laws.{closure-joins}
 use Rattle.relations.proofs.Precedes.{precedes-not-nil, precedes-cases}
 

@@ -20,6 +20,7 @@ use Rattle.model.proofs.Decidable.{dec-sc-reaches}
 use Rattle.model.proofs.Growth.{Addition, hasLocation, newId, grown, sc-order-grows}
 use Rattle.model.proofs.WellFormed.{WellFormed}
 use Rattle.model.proofs.Sinks.{sc-sink}
+use Rattle.relations.proofs.Laws.{reaches-moves, reaches-more, reaches-append-cases}
 use Rattle.situations.specs.Situation.{known}
 use Rattle.situations.proofs.KnownSink.{Touches, before-new-event, reaches-new-event, write-touches}
 use Rattle.situations.proofs.KnownSink.{read-touches}
@@ -27,7 +28,6 @@ use Rattle.situations.proofs.Decisions.{decide-no, decide-same, decide-
 use Rattle.situations.proofs.StepGrowth.{ownEvents, Stays, Joins}
 use Rattle.situations.proofs.Newest.{newest-elsewhere, newest-kept, newest-not-new, picked-is-newest}
 use Rattle.situations.proofs.Newest.{new-is-newest}
-use Rattle.relations.proofs.Laws.{reaches-moves, reaches-more, reaches-append-cases}
 
 -- It is decided that a is, or comes in SC order before, one of the events.
 abbrev pub knows : Graph → List Id → Id → Bool

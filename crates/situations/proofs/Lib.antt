@@ -1,7 +1,6 @@
 pub mod Rows
 pub mod Decisions
 pub mod Newest
-pub mod Bounds
 pub mod Bounded
 pub mod Reached
 pub mod Named
@@ -25,3 +24,4 @@ pub mod ReadableExact
 pub mod TestWitness
 pub mod TestEnding
 pub mod TestNamed
+pub mod ThreadLists

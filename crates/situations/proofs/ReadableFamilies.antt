@@ -10,13 +10,13 @@ use Rattle.model.specs.Graph.{Graph, below, threadEvents, valueOf}
 use Rattle.model.specs.Readable.{newest}
 use Rattle.model.proofs.Growth.{Addition, newId, grown, hasLocation, others-ids-stay}
 use Rattle.model.proofs.WellFormed.{WellFormed}
+use Rattle.model.proofs.Below.{row-of-below}
 use Rattle.situations.proofs.ReadableOverwritten.{keeps}
 use Rattle.situations.proofs.ReadableRows.{row, metRow, row-of-sources, row-kept, row-by-new, row-stale, own-row}
 use Rattle.situations.proofs.ReadableSink.{seenByNew, thread-new, alone-new}
 use Rattle.situations.proofs.Rows.{rows-same, row-set, row-changed-and-set}
 use Rattle.situations.proofs.StepGrowth.{thread-events-old, newest-old}
 use Rattle.situations.proofs.Newest.{newest-elsewhere, newest-kept, picked-is-newest, new-is-newest}
-use Rattle.model.proofs.Below.{row-of-below}
 
 -- The rows of T threads, and of the newest writes of L locations.
 abbrev pub byThread : (K L T : ℕ) → Graph → (leave : Bool) → List (List ℕ)

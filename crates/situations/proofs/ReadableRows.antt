@@ -11,6 +11,7 @@ use Rattle.model.specs.Graph.{Id, Graph, below, valueOf}
 use Rattle.model.specs.Readable.{newest}
 use Rattle.model.proofs.Growth.{Addition, grown, order-elsewhere, order-kept}
 use Rattle.model.proofs.WellFormed.{WellFormed}
+use Rattle.model.proofs.Below.{row-of-below}
 use Rattle.situations.specs.Situation.{readable}
 use Rattle.situations.proofs.ReadableSink.{New, seenByNew, sources}
 use Rattle.situations.proofs.ReadableOverwritten.{keeps}
@@ -18,7 +19,6 @@ use Rattle.situations.proofs.ReadableSets.{readable-met, readable-kept,
 use Rattle.situations.proofs.ReadableSets.{readable-stale}
 use Rattle.situations.proofs.Rows.{rows-same, row-set, meet-of-rows}
 use Rattle.situations.proofs.StepGrowth.{Old}
-use Rattle.model.proofs.Below.{row-of-below}
 
 -- The row after the events es, in a graph with L locations.
 abbrev pub row : (K L : ℕ) → Graph → (leave : Bool) → List Id → List ℕ

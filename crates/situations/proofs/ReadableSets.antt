@@ -14,13 +14,13 @@ use Rattle.model.specs.Readable.{Readable}
 use Rattle.model.proofs.Choices.{dec-readable}
 use Rattle.model.proofs.Growth.{Addition, newId, grown}
 use Rattle.model.proofs.WellFormed.{WellFormed, listed-not-next, listed-event-stays}
+use Rattle.model.proofs.StartsFirst.{nothing-precedes-start}
 use Rattle.situations.specs.Situation.{readable}
 use Rattle.situations.proofs.ReadableSink.{Seen, New, seenByNew, seen-kept, seen-by-new}
 use Rattle.situations.proofs.ReadableSplits.{readable-moves, readable-by-both}
 use Rattle.situations.proofs.ReadableOverwritten.{keeps, none-older, readable-overwritten}
 use Rattle.situations.proofs.Decisions.{same-set, met-set, wider-set, no-set}
 use Rattle.situations.proofs.StepGrowth.{Old}
-use Rattle.model.proofs.StartsFirst.{nothing-precedes-start}
 
 pub readable-met : (K : ℕ) (g : Graph) (leave : Bool) (es es′ : List Id) (y : ℕ)
     → readable K g leave (es ++ es′) y ≡ meet (readable K g leave es y) (readable K g leave es′ y)

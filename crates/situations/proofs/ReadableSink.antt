@@ -16,9 +16,9 @@ use Rattle.model.proofs.Growth.{Addition, newId, grown, new-there, new-is-own, 
 use Rattle.model.proofs.WellFormed.{WellFormed}
 use Rattle.model.proofs.Sinks.{happens-sink}
 use Rattle.model.proofs.NewEdges.{own-before-new, in-thread-before-new}
-use Rattle.situations.proofs.StepGrowth.{Old, thread-events-old}
 use Rattle.model.proofs.StartsFirst.{nothing-happens-before-start}
 use Rattle.relations.proofs.Laws.{reaches-moves, reaches-more}
+use Rattle.situations.proofs.StepGrowth.{Old, thread-events-old}
 
 -- One of the events, or something that happens before one: it is seen after them.
 abbrev pub Seen : Graph → List Id → Id → Type 0

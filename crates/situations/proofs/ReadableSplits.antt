@@ -10,9 +10,9 @@ use Rattle.relations.proofs.Precedes.{precedes-after}
 use Rattle.model.specs.Graph.{Id, Graph, order, eventAt, valueWritten, isUpdate}
 use Rattle.model.specs.Run.{startsWithUpdate}
 use Rattle.model.specs.Readable.{Readable}
-use Rattle.situations.proofs.ReadableSink.{Seen}
 use Rattle.relations.proofs.Laws.{reaches-more, reaches-append-cases}
 use Rattle.lists.proofs.Ends.{splits-nest}
+use Rattle.situations.proofs.ReadableSink.{Seen}
 
 module _ {g g′ : Graph} (es es′ : List Id) (leave : Bool) (y u : ℕ) (same-order : order g y ≡ order g′ y)
     (same-events : (v : Id) → Member v (order g y) → eventAt g v ≡ eventAt g′ v)

@@ -6,7 +6,7 @@ use mathlib.Core.Option.{Option, none, some, Option·map}
 use mathlib.Core.Logic.{_⊎_}
 use Rattle.program.specs.Program.{Program}
 use Rattle.program.specs.declared.Kind.{Kind}
-use Rattle.program_bytes.specs.Spelling.{Valid}
+use Rattle.program.specs.Within.{Valid}
 use Rattle.model.specs.Run.{State, ScRun}
 use Rattle.model.specs.Witness.{Witness}
 use Rattle.rules.specs.Situation.{Situation}

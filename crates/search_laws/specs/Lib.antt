@@ -1,4 +1,0 @@
-pub mod Written
-pub mod Queued
-pub mod BackIn
-pub mod Searching
