@@ -141,7 +141,8 @@ unfolding filled andThen endsAfter check reading headerOf noHeader
 filled-is-reading T L K bytes = go (readThreads L K T bytes) refl
   where
     go : (o : Outcome (List (List Line) × List ℕ)) → readThreads L K T bytes ≡ o
-        → filled (withLimits T L K noHeader) 0 sizePR (andThen o (endsAfter L K)) ≡ reading (andThen o (endsAfter L K))
+        → filled (withLimits T L K noHeader) 0 sizePR (andThen o (endsAfter L K))
+        ≡ reading (andThen o (endsAfter L K))
     go (refused k) e = refl
     go (accepted got) e = ends-or-not (eqb (length (got .1)) 0)
       where

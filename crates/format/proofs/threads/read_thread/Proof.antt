@@ -19,7 +19,8 @@ abbrev at-start : tie.After-is-record → tie.Start
 at-start c = c .before .before .before
 
 -- Past the first test the TH record stands at the cursor, and fits.
-stands : (c : tie.Else1) → let a = at-start (c .before) .args in isRecord markTH sizeTH (drop (a .at) (now (a .bytes))) ≡ true
+stands : (c : tie.Else1)
+    → let a = at-start (c .before) .args in isRecord markTH sizeTH (drop (a .at) (now (a .bytes))) ≡ true
 stands c = sym (c .before .is-record .ensures) ∙ not-false _ (c .if1 .left)
 
 fits : (c : tie.Else1) → let a = at-start (c .before) .args in a .at + sizeTH ≤ length (now (a .bytes))

@@ -1,5 +1,7 @@
--- `format::threads::read_threads` meets its contract. What is still to be read, filled into the header so far, comes to the answer.
-use Rattle.format.proofs.Filling.{Ahead, withThread, begins, turn-fails, turn-passes, input-ends, input-goes-on}
+-- `format::threads::read_threads` meets its contract. What is still to be read, filled into the header so far,
+-- comes to the answer.
+use Rattle.format.proofs.Filling.{Ahead, withThread, begins, turn-fails, turn-passes}
+use Rattle.format.proofs.Filling.{input-ends, input-goes-on}
 use Rattle.program_bytes.specs.Format.{sizeTH, sizeIN}
 use denote.Ref.{now}
 use native.Mathlib.Omega.{arith}
