@@ -15,9 +15,9 @@ use Rattle.program_bytes.specs.Ops.{opAt}
 use Rattle.program_bytes.specs.Format.{sizePR, sizeIN, operand, readProgram, programOf}
 use Rattle.program_bytes.specs.Layout.{startsFrom, startOf}
 use Rattle.format.specs.Answer.{Accepted, headerOf}
-use Rattle.format.specs.Inner.{fieldsOf}
+use Rattle.records.specs.Fields.{fieldsOf}
 use Rattle.format.specs.declared.Header.{Header}
-use Rattle.format.specs.declared.checks.Fields.{Fields}
+use Rattle.records.specs.declared.Fields.{Fields}
 use Rattle.program_bytes.proofs.RoundTrip.{accepted-is-spelling}
 use Rattle.program_bytes.proofs.Places.{LineStands, line-stands}
 use Rattle.program_bytes.proofs.StartLaws.{length-startsFrom}

@@ -12,7 +12,8 @@ use Rattle.program.specs.Program.{Line}
 use Rattle.program_bytes.specs.Outcome.{Outcome, check, andThen}
 use Rattle.program_bytes.specs.Outcome.Outcome.{refused, accepted}
 use Rattle.program_bytes.specs.Format.{isRecord, markIN, markTH, sizeIN, sizeTH, fieldsToLine, readLine, readLines, readThread}
-use Rattle.format.specs.Inner.{checkOf, fieldsOf, threadOf}
+use Rattle.records.specs.Fields.{fieldsOf}
+use Rattle.format.specs.Inner.{checkOf, threadOf}
 use Rattle.format.specs.declared.Check.{Check}
 use Rattle.format.specs.declared.Check.the-variants.{Passed, Failed}
 use Rattle.format.specs.declared.threads.Thread.the-variants.{Lines, Faulty}

@@ -1,6 +1,6 @@
 -- `format::lines::check_line` meets its contract. Check 3, and then what `check_fields` ensures of the fields.
 use Rattle.format.proofs.Turns.{record-fits, line-checked}
-use Rattle.format.specs.declared.checks.Fields.{Fields}
+use Rattle.records.specs.declared.Fields.{Fields}
 use Rattle.format.specs.Inner.{checkOf}
 use Rattle.program_bytes.specs.Format.{readLine, markIN, fieldsToLine}
 use Rattle.program_bytes.specs.Outcome.{check}

@@ -1,5 +1,5 @@
 -- `format::lines::decode` meets its contract. Each arm is its row of the op table; what is no op has the first row.
-use Rattle.format.proofs.FirstRow.{first-row}
+use Rattle.records.proofs.FirstRow.{first-row}
 use Rattle.format.specs.Answer.{lineMeans}
 use Rattle.program_bytes.specs.Ops.{opTable, opAt, sumOp}
 use borrow.Author.Needs.{needs}
