@@ -58,17 +58,7 @@ returns-10 c =
     let n = c .before .match .rest in
     c .uses10 .ensures
     ∙ rw (first-row (c .before .before .args .op)
-    (record {
-      ten = n .1;
-      nine = n .0 .1;
-      eight = n .0 .0 .1;
-      seven = n .0 .0 .0 .1;
-      six = n .0 .0 .0 .0 .1;
-      five = n .0 .0 .0 .0 .0 .1;
-      four = n .0 .0 .0 .0 .0 .0 .1;
-      three = n .0 .0 .0 .0 .0 .0 .0 .1;
-      two = n .0 .0 .0 .0 .0 .0 .0 .0 .1;
-    }))
+    n)
 
 pub row-of-spec : {M : Type 1} → statement M
 row-of-spec =
