@@ -5,6 +5,7 @@ pub mod RecordLaws
 pub mod FieldLaws
 pub mod RowLaws
 pub mod AllLaws
+pub mod LargerLimits
 pub mod SpellingLength
 pub mod HeaderLaws
 pub mod AcceptedLine
