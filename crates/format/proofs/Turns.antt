@@ -11,7 +11,8 @@ use lib.Seq.{drop-drop, getD-drop}
 use Rattle.program.specs.Program.{Line}
 use Rattle.program_bytes.specs.Outcome.{Outcome, check, andThen}
 use Rattle.program_bytes.specs.Outcome.Outcome.{refused, accepted}
-use Rattle.program_bytes.specs.Format.{isRecord, markIN, markTH, sizeIN, sizeTH, fieldsToLine, readLine, readLines, readThread}
+use Rattle.program_bytes.specs.Format.{isRecord, markIN, markTH, sizeIN, sizeTH, fieldsToLine}
+use Rattle.program_bytes.specs.Format.{readLine, readLines, readThread}
 use Rattle.records.specs.Fields.{fieldsOf}
 use Rattle.format.specs.Inner.{checkOf, threadOf}
 use Rattle.format.specs.declared.Check.{Check}
@@ -73,7 +74,8 @@ module _ (L K n : ℕ) (bytes : List ℕ) where
             ∙ ap (λ (c : ℕ). checkOf (readLines L K n c (drop sizeIN bytes))) one,
       )
 
--- The invariant of the loop over a thread's lines: from byte next on, what is left comes to the check of all from at on.
+-- The invariant of the loop over a thread's lines: from byte next on, what is left comes to the check of all from
+-- byte at on.
 pub record LinesAhead (L K n : ℕ) (bytes : List ℕ) (at next left : ℕ) : Type 0 where
   pub inside : next ≤ length bytes
   pub comes-to : checkOf (readLines L K n left (drop next bytes)) ≡ checkOf (readLines L K n n (drop at bytes))

@@ -1,5 +1,5 @@
-// The tests of one record, each an equation with its definition in specs/Format.antt of the crate program_bytes: its mark,
-// and the fields of a line. Which test comes first, and what number it has, is the reader's (crate format).
+// The tests of one record, each an equation with its definition in specs/Format.antt of the crate program_bytes: its
+// mark, and the fields of a line. Which test comes first, and what number it has, is the reader's (crate format).
 ghost use mathlib.Core.Path.{_≡_};
 ghost use Prim.Native.Nat.{_+_, _≤_};
 ghost use lib.ListN.{length, drop};

@@ -1,4 +1,5 @@
--- `records::is_record` meets its contract. A record that runs past the end is not there; one that fits is there where its mark is.
+-- `records::is_record` meets its contract. A record that runs past the end is not there; one that fits is there where
+-- its mark is.
 use mathlib.Core.Path.{sym, _∙_}
 use denote.Ref.{now}
 use Rattle.records.proofs.AtCursor.{too-short, fits-if-marked}
