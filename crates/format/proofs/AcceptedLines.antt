@@ -15,9 +15,9 @@ use Rattle.program_bytes.specs.Ops.{opAt}
 use Rattle.program_bytes.specs.Format.{sizePR, sizeIN, operand, readProgram, programOf}
 use Rattle.program_bytes.specs.Layout.{startsFrom, startOf}
 use Rattle.format.specs.Answer.{Accepted, headerOf}
-use Rattle.format.specs.Inner.{fieldsOf}
+use Rattle.records.specs.Fields.{fieldsOf}
 use Rattle.format.specs.declared.Header.{Header}
-use Rattle.format.specs.declared.checks.Fields.{Fields}
+use Rattle.records.specs.declared.Fields.{Fields}
 use Rattle.program_bytes.proofs.RoundTrip.{accepted-is-spelling}
 use Rattle.program_bytes.proofs.Places.{LineStands, line-stands}
 use Rattle.program_bytes.proofs.StartLaws.{length-startsFrom}
@@ -32,8 +32,11 @@ front-of-row width l t h fits =
     )))
     ∙ List·getD-append l _ 0 t h
 
-module _ (bytes : List ℕ) (h : Header) (is : Accepted bytes h) (t i : ℕ)
-    (in-threads : t < length (programOf bytes .threads)) (in-lines : i < length (linesOf (programOf bytes) t)) where
+-- A line of an accepted input: line i of thread t.
+abbrev pub HasLine : List ℕ → (t i : ℕ) → Type 0
+HasLine bytes t i = (t < length (programOf bytes .threads)) × (i < length (linesOf (programOf bytes) t))
+
+module _ (bytes : List ℕ) (h : Header) (is : Accepted bytes h) (t i : ℕ) (there : HasLine bytes t i) where
   few-threads : length (programOf bytes .threads) ≤ maxThreads
   few-threads = accepted-is-spelling bytes (programOf bytes) (is .program) .1 .few-threads
 
@@ -55,7 +58,7 @@ module _ (bytes : List ℕ) (h : Header) (is : Accepted bytes h) (t i : ℕ)
   stands : (other : Line) → LineStands (programOf bytes .locations) (programOf bytes .values) (length (linesOf
       (programOf bytes) t)) bytes
       (startOf (programOf bytes .threads) t + sizeIN * i) (getD (linesOf (programOf bytes) t) i other)
-  stands other = line-stands bytes (programOf bytes) (is .program) t i other in-threads in-lines
+  stands other = line-stands bytes (programOf bytes) (is .program) t i other (there .0) (there .1)
 
   place-is : getD (h .starts) t 0 + i * sizeIN ≡ startOf (programOf bytes .threads) t + sizeIN * i
   place-is = omega (arith, start-is)

@@ -54,10 +54,9 @@ filled h i next (accepted p) =
 abbrev pub restOf : (L K left : ℕ) → List ℕ → Outcome Program
 restOf L K left bytes = andThen (readThreads L K left bytes) (endsAfter L K)
 
--- The header that the loop starts from.
-abbrev pub emptyHeader : (T L K : ℕ) → Header
-emptyHeader T L K =
-    record { threads = T; locations = L; values = K; starts = noHeader .starts; counts = noHeader .counts }
+-- A header with T, L and K filled in; the loop starts from that of no program.
+abbrev pub withLimits : (T L K : ℕ) → Header → Header
+withLimits T L K h = record { threads = T; locations = L; values = K; starts = h .starts; counts = h .counts }
 
 -- What a thread's reading was, from what the code finds of it.
 thread-refused : (o : Outcome (List Line × List ℕ)) {k : ℕ} → threadOf o ≡ Faulty k → o ≡ refused k
@@ -137,54 +136,65 @@ goes-on L K bytes h i next e = rw (ne-eqb (length bytes) 0 (λ z. omega arith))
 
 -- Filled from the start it is the answer.
 filled-is-reading : (T L K : ℕ) (bytes : List ℕ)
-    → filled (emptyHeader T L K) 0 sizePR (restOf L K T bytes) ≡ reading (restOf L K T bytes)
+    → filled (withLimits T L K noHeader) 0 sizePR (restOf L K T bytes) ≡ reading (restOf L K T bytes)
 unfolding filled andThen endsAfter check reading headerOf noHeader
 filled-is-reading T L K bytes = go (readThreads L K T bytes) refl
   where
     go : (o : Outcome (List (List Line) × List ℕ)) → readThreads L K T bytes ≡ o
-        → filled (emptyHeader T L K) 0 sizePR (andThen o (endsAfter L K)) ≡ reading (andThen o (endsAfter L K))
+        → filled (withLimits T L K noHeader) 0 sizePR (andThen o (endsAfter L K))
+        ≡ reading (andThen o (endsAfter L K))
     go (refused k) e = refl
     go (accepted got) e = ends-or-not (eqb (length (got .1)) 0)
       where
         ends-or-not : (b : Bool)
-            → filled (emptyHeader T L K) 0 sizePR (check 9 b (accepted
+            → filled (withLimits T L K noHeader) 0 sizePR (check 9 b (accepted
             (record { threads = got .0; locations = L; values = K })))
             ≡ reading (check 9 b (accepted (record { threads = got .0; locations = L; values = K })))
         ends-or-not true = rw (sym (threads-read L K T bytes e .counted))
         ends-or-not false = refl
 
--- The loop's invariant in its place: after i of T threads, at byte next, what is left comes to the answer `whole`.
-abbrev pub Ahead : (L K T : ℕ) → List ℕ → Header → (i next : ℕ) → Reading → Type 0
-Ahead L K T bytes h i next whole = filled h i next (restOf L K (T - i) (drop next bytes)) ≡ whole
-
-module _ (L K T : ℕ) (bytes : List ℕ) (h : Header) (i next : ℕ) (whole : Reading)
-    (ahead : Ahead L K T bytes h i next whole) where
-  pub turn-fails : i < T → {k : ℕ} → threadOf (readThread L K (drop next bytes)) ≡ Faulty k → refusal k ≡ whole
-  turn-fails more e = sym (thread-fails L K (drop next bytes) (T - i) (omega arith) h i next e) ∙ ahead
-
-  pub turn-passes : i < T → next ≤ length bytes → {n : ℕ} → threadOf (readThread L K (drop next bytes)) ≡ Lines n
-      → (next + sizeTH + n * sizeIN ≤ length bytes)
-      × Ahead L K T bytes (withThread h i (next + sizeTH) n) (i + 1) (next + sizeTH + n * sizeIN) whole
-  turn-passes more inside {n} e =
-      let p = thread-passes L K (drop next bytes) (T - i) (omega arith) h i next e in
-      let here : next + sizeTH + n * sizeIN ≡ next + (sizeTH + n * sizeIN) = omega arith in
-      let one : T - (i + 1) ≡ T - i - 1 = omega arith in (
-        omega (arith, p .0, length-drop next bytes),
-        rw (here, one, ← drop-drop (sizeTH + n * sizeIN) next bytes) (sym (p .1) ∙ ahead),
-      )
-
-  all-read : i ≡ T → filled h i next (restOf L K 0 (drop next bytes)) ≡ whole
-  all-read e = let none : 0 ≡ T - i = omega arith in rw none ahead
-
-  pub input-ends : i ≡ T → length bytes ≤ next → record { check = Passed; header = h } ≡ whole
-  input-ends e end = sym (ends L K (drop next bytes) h i next (omega (arith, length-drop next bytes))) ∙ all-read e
-
-  pub input-goes-on : i ≡ T → next < length bytes → refusal 9 ≡ whole
-  input-goes-on e more = sym (goes-on L K (drop next bytes) h i next (omega (arith, length-drop next bytes)))
-      ∙ all-read e
+-- The loop's invariant: after i of T threads, at byte next, what is left comes to the answer.
+pub record Ahead (L K T : ℕ) (bytes : List ℕ) (h : Header) (i next : ℕ) : Type 0 where
+  pub inside : next ≤ length bytes
+  pub not-past : i ≤ T
+  pub comes-to : filled h i next (restOf L K (T - i) (drop next bytes)) ≡ reading (restOf L K T (drop sizePR bytes))
 
 -- Where the loop begins.
-pub begins : (T L K : ℕ) (bytes : List ℕ) (h : Header) → h ≡ emptyHeader T L K
-    → Ahead L K T bytes h 0 sizePR (reading (restOf L K T (drop sizePR bytes)))
-begins T L K bytes h e =
-    let none : T - 0 ≡ T = omega arith in rw (e, none) (filled-is-reading T L K (drop sizePR bytes))
+pub begins : (T L K : ℕ) (bytes : List ℕ) {h : Header} → sizePR ≤ length bytes → h ≡ noHeader
+    → Ahead L K T bytes (withLimits T L K h) 0 sizePR
+begins T L K bytes fits e =
+    let none : T - 0 ≡ T = omega arith in
+    record {
+      inside = fits;
+      not-past = omega arith;
+      comes-to = rw (e, none) (filled-is-reading T L K (drop sizePR bytes));
+    }
+
+module _ {L K T : ℕ} {bytes : List ℕ} {h : Header} {i next : ℕ} (ahead : Ahead L K T bytes h i next) where
+  pub turn-fails : i < T → {k : ℕ} → threadOf (readThread L K (drop next bytes)) ≡ Faulty k
+      → refusal k ≡ reading (restOf L K T (drop sizePR bytes))
+  turn-fails more e = sym (thread-fails L K (drop next bytes) (T - i) (omega arith) h i next e) ∙ ahead .comes-to
+
+  pub turn-passes : i < T → {n : ℕ} → threadOf (readThread L K (drop next bytes)) ≡ Lines n
+      → Ahead L K T bytes (withThread h i (next + sizeTH) n) (i + 1) (next + sizeTH + n * sizeIN)
+  turn-passes more {n} e =
+      let p = thread-passes L K (drop next bytes) (T - i) (omega arith) h i next e in
+      let here : next + sizeTH + n * sizeIN ≡ next + (sizeTH + n * sizeIN) = omega arith in
+      let one : T - (i + 1) ≡ T - i - 1 = omega arith in
+      record {
+        inside = omega (arith, p .0, length-drop next bytes);
+        not-past = omega arith;
+        comes-to =
+            rw (here, one, ← drop-drop (sizeTH + n * sizeIN) next bytes) (sym (p .1) ∙ ahead .comes-to);
+      }
+
+  all-read : T ≤ i → filled h i next (restOf L K 0 (drop next bytes)) ≡ reading (restOf L K T (drop sizePR bytes))
+  all-read e = let none : 0 ≡ T - i = omega arith in rw none (ahead .comes-to)
+
+  pub input-ends : T ≤ i → length bytes ≤ next
+      → record { check = Passed; header = h } ≡ reading (restOf L K T (drop sizePR bytes))
+  input-ends e end = sym (ends L K (drop next bytes) h i next (omega (arith, length-drop next bytes))) ∙ all-read e
+
+  pub input-goes-on : T ≤ i → next < length bytes → refusal 9 ≡ reading (restOf L K T (drop sizePR bytes))
+  input-goes-on e more = sym (goes-on L K (drop next bytes) h i next (omega (arith, length-drop next bytes)))
+      ∙ all-read e

@@ -11,8 +11,10 @@ use lib.Seq.{drop-drop, getD-drop}
 use Rattle.program.specs.Program.{Line}
 use Rattle.program_bytes.specs.Outcome.{Outcome, check, andThen}
 use Rattle.program_bytes.specs.Outcome.Outcome.{refused, accepted}
-use Rattle.program_bytes.specs.Format.{isRecord, markIN, markTH, sizeIN, sizeTH, fieldsToLine, readLine, readLines, readThread}
-use Rattle.format.specs.Inner.{checkOf, fieldsOf, threadOf}
+use Rattle.program_bytes.specs.Format.{isRecord, markIN, markTH, sizeIN, sizeTH, fieldsToLine}
+use Rattle.program_bytes.specs.Format.{readLine, readLines, readThread}
+use Rattle.records.specs.Fields.{fieldsOf}
+use Rattle.format.specs.Inner.{checkOf, threadOf}
 use Rattle.format.specs.declared.Check.{Check}
 use Rattle.format.specs.declared.Check.the-variants.{Passed, Failed}
 use Rattle.format.specs.declared.threads.Thread.the-variants.{Lines, Faulty}
@@ -48,7 +50,7 @@ record-fits mark bytes at size h e =
 
 module _ (L K n : ℕ) (bytes : List ℕ) where
   -- A line that fails ends the lines.
-  pub lines-fail : (left : ℕ) → 0 < left → {k : ℕ} → checkOf (readLine L K n bytes) ≡ Failed k
+  lines-fail : (left : ℕ) → 0 < left → {k : ℕ} → checkOf (readLine L K n bytes) ≡ Failed k
       → checkOf (readLines L K n left bytes) ≡ Failed k
   unfolding readLines checkOf
   lines-fail zero some e = absurd (omega arith)
@@ -56,7 +58,7 @@ module _ (L K n : ℕ) (bytes : List ℕ) where
       (readLine L K n bytes) e))
 
   -- A line that passes leaves one fewer, behind it.
-  pub lines-pass : (left : ℕ) → 0 < left → checkOf (readLine L K n bytes) ≡ Passed
+  lines-pass : (left : ℕ) → 0 < left → checkOf (readLine L K n bytes) ≡ Passed
       → (sizeIN ≤ length bytes)
       × (checkOf (readLines L K n left bytes) ≡ checkOf (readLines L K n (left - 1) (drop sizeIN bytes)))
   unfolding readLines
@@ -71,6 +73,32 @@ module _ (L K n : ℕ) (bytes : List ℕ) where
             ∙ ap (λ (b : List ℕ). checkOf (readLines L K n left b)) (now .after)
             ∙ ap (λ (c : ℕ). checkOf (readLines L K n c (drop sizeIN bytes))) one,
       )
+
+-- The invariant of the loop over a thread's lines: from byte next on, what is left comes to the check of all from
+-- byte at on.
+pub record LinesAhead (L K n : ℕ) (bytes : List ℕ) (at next left : ℕ) : Type 0 where
+  pub inside : next ≤ length bytes
+  pub comes-to : checkOf (readLines L K n left (drop next bytes)) ≡ checkOf (readLines L K n n (drop at bytes))
+
+module _ {L K n : ℕ} {bytes : List ℕ} {at next left : ℕ} (ahead : LinesAhead L K n bytes at next left) where
+  pub turn-fails : 0 < left → {k : ℕ} → checkOf (readLine L K n (drop next bytes)) ≡ Failed k
+      → Failed k ≡ checkOf (readLines L K n n (drop at bytes))
+  turn-fails some e = sym (lines-fail L K n (drop next bytes) left some e) ∙ ahead .comes-to
+
+  pub turn-passes : 0 < left → checkOf (readLine L K n (drop next bytes)) ≡ Passed
+      → LinesAhead L K n bytes at (next + sizeIN) (left - 1)
+  turn-passes some e =
+      let p = lines-pass L K n (drop next bytes) left some e in
+      record {
+        inside = omega (arith, p .0, length-drop next bytes);
+        comes-to = rw (← drop-drop sizeIN next bytes) (sym (p .1) ∙ ahead .comes-to);
+      }
+
+  pub lines-end : left ≤ 0 → Passed ≡ checkOf (readLines L K n n (drop at bytes))
+  unfolding readLines checkOf
+  lines-end e =
+      let none : 0 ≡ left = omega arith in
+      ap (λ (m : ℕ). checkOf (readLines L K n m (drop next bytes))) none ∙ ahead .comes-to
 
 -- A line's record that stands there is checked by its fields.
 pub line-checked : (L K n : ℕ) (bytes : List ℕ) → isRecord markIN sizeIN bytes ≡ true

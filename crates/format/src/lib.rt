@@ -1,12 +1,11 @@
 // The program bytes of document 01: the reader, and the line at a place of an accepted input.
 // The meaning is specs/Format.antt of the crate program_bytes; each contract is an equation with it.
-mod checks;
 mod lines;
 mod threads;
 
-use checks::is_record;
 use lines::decode;
-use lines::fields_at;
+use records::fields_at;
+use records::is_record;
 use threads::read_threads;
 ghost use mathlib.Core.Path.{_≡_};
 ghost use Prim.Native.Nat.{_<_};
@@ -15,14 +14,12 @@ ghost use Rattle.program.specs.Program.{Line as ModelLine, linesOf};
 ghost use Rattle.program_bytes.specs.Format.{areInRange, readProgram, programOf};
 ghost use Rattle.format.specs.Answer.{noHeader, refusal, reading, Accepted, lineMeans};
 
-// The bytes of each record, and the byte that stands for register 0 as an operand.
+// The bytes of each record.
 const PR_SIZE: usize = 5;
 
 const TH_SIZE: usize = 3;
 
 const IN_SIZE: usize = 7;
-
-const FIRST_REGISTER: usize = 128;
 
 // What a check says: passed, or the number of the check that failed.
 pub enum Check {

@@ -1,32 +1,45 @@
 // The lines of a thread: their checks, and the line of a record that passed.
 use crate::Check;
-use crate::FIRST_REGISTER;
 use crate::IN_SIZE;
 use crate::Line;
 use crate::Operand;
-use crate::checks::Fields;
-use crate::checks::check_fields;
-use crate::checks::is_record;
+use records::FIRST_REGISTER;
+use records::Fields;
+use records::are_operands;
+use records::fields_at;
+use records::is_op;
+use records::is_record;
+use records::is_reg_and_rest;
+use records::is_target;
+use records::row_of;
 ghost use mathlib.Core.Path.{_≡_};
-ghost use Prim.Native.Nat.{_+_, _≤_};
+ghost use Prim.Native.Nat.{_≤_};
 ghost use lib.ListN.{length, drop};
 ghost use Rattle.program_bytes.specs.Ops.{opAt};
-ghost use Rattle.program_bytes.specs.Format.{operand, readLine, readLines};
+ghost use Rattle.program_bytes.specs.Format.{operand, fieldsToLine, readLine, readLines};
 ghost use Rattle.format.specs.Answer.{operandMeans, lineMeans};
-ghost use Rattle.format.specs.Inner.{fieldsOf, checkOf};
+ghost use Rattle.format.specs.Inner.{checkOf};
 
-// The fields of the record at the cursor.
-pub fn fields_at(bytes: &[u8], at: usize) -> Fields
-    requires { ⌜ at + 7 ≤ length (now bytes) ⌝ }
-    ensures { λ r. ⌜ r ≡ fieldsOf (drop at (now (bytes .entry))) ⌝ }
+// Checks 5 to 8 of the fields of a line.
+fn check_fields(f: Fields, l: u8, k: u8, n: u8) -> Check
+    ensures { λ r. ⌜ r ≡ checkOf (fieldsToLine l k n (f .op) (f .reg) (f .target) (f .a) (f .b)) ⌝ }
 {
-    Fields {
-        op: bytes[at + 2],
-        reg: bytes[at + 3],
-        target: bytes[at + 4],
-        a: bytes[at + 5],
-        b: bytes[at + 6],
+    let op = f.op;
+    if !is_op(op) {
+        return Check::Failed(5);
     }
+    let r = row_of(op);
+    if !is_reg_and_rest(r, f) {
+        return Check::Failed(6);
+    }
+    let target = r.target;
+    if !is_target(target, l, n, f.target) {
+        return Check::Failed(7);
+    }
+    if !are_operands(r, f, k) {
+        return Check::Failed(8);
+    }
+    Check::Passed
 }
 
 // Check 3, then checks 5 to 8, of the line that is due at the cursor.

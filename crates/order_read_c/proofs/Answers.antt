@@ -43,7 +43,7 @@ pub none-answered : (bytes : List ℕ) (r : Reading) (t i : ℕ) {k : ℕ} → r
 none-answered bytes r t i e failed =
     none-of-outcome (readProgram bytes) t i (ap (λ (x : Reading). x .check) (sym e) ∙ failed)
 
-module _ (bytes : List ℕ) (h : Header) (is : Accepted bytes h) (t i : ℕ) where
+module _ {bytes : List ℕ} {h : Header} (is : Accepted bytes h) (t i : ℕ) where
   answer-is : lineAnswer (readProgram bytes) t i ≡ lineAnswer (accepted (programOf bytes)) t i
   answer-is = ap (λ (o : Outcome Program). lineAnswer o t i) (is .program)
 

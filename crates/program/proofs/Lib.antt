@@ -3,3 +3,4 @@ pub mod EachOp
 pub mod AllLaws
 pub mod ValidLaws
 pub mod Bounds
+pub mod LargerLimits

@@ -1,7 +1,11 @@
 -- `order_read_c::order_line` meets its contract. The tests say whether there is such a line; then `line_at` gives it.
 use Rattle.program.specs.Program.Line.{wait}
 use Rattle.program.specs.Program.Operand.{constant}
-use Rattle.order_read_c.proofs.Answers.{none-answered, thread-missing, thread-there, line-missing, line-there, line-answered}
+use Rattle.order_read_c.proofs.Answers.{none-answered, thread-missing, thread-there}
+use Rattle.order_read_c.proofs.Answers.{line-missing, line-there, line-answered}
+use Rattle.limits.specs.Limits.{maxThreads}
+use Rattle.format.specs.Answer.{Accepted}
+use Prim.Native.Nat.{_<_}
 use Rattle.format.proofs.AcceptedHeader.{passed-is-accepted, accepted-within}
 use native.Mathlib.Omega.{arith}
 use denote.Ref.{now}
@@ -11,79 +15,75 @@ use borrow.Author.Needs.{needs}
 use Rattle.order_read_c.proofs.order_line.Statement.{statement}
 use Rattle.order_read_c.proofs.order_line.Tie as tie
 
+abbrev at-start : tie.After-read → tie.Start
+at-start c = c .before .before
+
+-- Where the check passed, the input is accepted, with its header.
+abbrev at-read : tie.After-struct-known → tie.After-read
+at-read c = c .before .before .before .before .before
+
+is-accepted : (c : tie.After-struct-known)
+    → let r = at-read c in Accepted (now (at-start r .args .program)) (r .read .result .header)
+is-accepted c =
+    let r = at-read c in
+    passed-is-accepted (now (at-start r .args .program)) (r .read .result) (r .read .ensures)
+    (c .before .enum-told2 .given .1)
+
+-- A thread that the program has is one of the limits.
+in-row : (c : tie.Else1) → at-start (at-read (c .before)) .args .thread < maxThreads
+in-row c =
+    let r = at-read (c .before) in
+    let a = at-start r .args in
+    let is = is-accepted (c .before) in
+    omega (
+      arith,
+      thread-there is (a .thread) (a .line) (c .if1 .left),
+      accepted-within (now (a .program)) (r .read .result .header) is .few-threads,
+    )
+
 returns : tie.Need-returns
 returns c =
-    let a = c .before .before .before .before .before .before .before .before .before .args in
-    let r = c .before .before .before .before .before .before .before .read in
-    let is = passed-is-accepted (now (a .program)) (r .result) (r .ensures)
-    (c .before .before .before .enum-told2 .given .1) in
-    c .no-line2 .ensures ∙ thread-missing (now (a .program)) (r .result .header) is (a .thread) (a .line)
-    (c .before .if1 .taken)
-
-mul-if2 : tie.Need-mul-if2
-mul-if2 c =
-    let a = c .before .before .before .before .before .before .before .before .args in
-    let r = c .before .before .before .before .before .before .read in
-    let is = passed-is-accepted (now (a .program)) (r .result) (r .ensures)
-    (c .before .before .enum-told2 .given .1) in
-    omega (
-      arith,
-      thread-there (now (a .program)) (r .result .header) is (a .thread) (a .line) (c .if1 .left),
-      accepted-within (now (a .program)) (r .result .header) is .few-threads,
-    )
-
-array-read-if2 : tie.Need-array-read-if2
-array-read-if2 c =
-    let a = c .before .before .before .before .before .before .before .before .args in
-    let r = c .before .before .before .before .before .before .read in
-    let is = passed-is-accepted (now (a .program)) (r .result) (r .ensures)
-    (c .before .before .enum-told2 .given .1) in
-    omega (
-      arith,
-      thread-there (now (a .program)) (r .result .header) is (a .thread) (a .line) (c .if1 .left),
-      accepted-within (now (a .program)) (r .result .header) is .few-threads,
-    )
+    let known = c .before .before in
+    let a = at-start (at-read known) .args in
+    c .no-line2 .ensures ∙ thread-missing (is-accepted known) (a .thread) (a .line) (c .before .if1 .taken)
 
 returns-2 : tie.Need-returns-2
 returns-2 c =
-    let a = c .before .before .before .before .before .before .before .before .before .before .args in
-    let r = c .before .before .before .before .before .before .before .before .read in
-    let is = passed-is-accepted (now (a .program)) (r .result) (r .ensures)
-    (c .before .before .before .before .enum-told2 .given .1) in
-    c .no-line3 .ensures ∙ line-missing (now (a .program)) (r .result .header) is (a .thread) (a .line)
-    (c .before .before .if1 .left) (c .before .if2 .taken)
+    let in-threads = c .before .before in
+    let a = at-start (at-read (in-threads .before)) .args in
+    c .no-line3 .ensures
+    ∙ line-missing (is-accepted (in-threads .before)) (a .thread) (a .line) (in-threads .if1 .left)
+    (c .before .if2 .taken)
 
 line-at-requires : tie.Need-line-at-requires
 line-at-requires c κs =
-    let a = c .before .before .before .before .before .before .before .before .before .args in
-    let r = c .before .before .before .before .before .before .before .read in
-    let is = passed-is-accepted (now (a .program)) (r .result) (r .ensures)
-    (c .before .before .before .enum-told2 .given .1) in (
+    let in-threads = c .before in
+    let a = at-start (at-read (in-threads .before)) .args in
+    let is = is-accepted (in-threads .before) in (
       is,
       (
-        thread-there (now (a .program)) (r .result .header) is (a .thread) (a .line) (c .before .if1 .left),
-        line-there (now (a .program)) (r .result .header) is (a .thread) (a .line) (c .before .if1 .left)
-            (c .if2 .left),
+        thread-there is (a .thread) (a .line) (in-threads .if1 .left),
+        line-there is (a .thread) (a .line) (in-threads .if1 .left) (c .if2 .left),
       ),
     )
 
 returns-3 : tie.Need-returns-3
 returns-3 c =
-    let a = c .before .before .before .before .before .before .before .args in
-    let r = c .before .before .before .before .before .read in
-    c .no-line .ensures ∙ none-answered (now (a .program)) (r .result) (a .thread) (a .line) (r .ensures)
+    let r = c .before .before .before .before .before in
+    let a = at-start r .args in
+    c .no-line .ensures
+    ∙ none-answered (now (a .program)) (r .read .result) (a .thread) (a .line) (r .read .ensures)
     (c .before .enum-told .given .1)
 
 returns-4 : tie.Need-returns-4
 returns-4 c =
-    let a = c .before .before .before .before .before .before .before .before .before .before .before .args in
-    let r = c .before .before .before .before .before .before .before .before .before .read in
-    let is = passed-is-accepted (now (a .program)) (r .result) (r .ensures)
-    (c .before .before .before .before .before .enum-told2 .given .1) in
+    let in-lines = c .before .before in
+    let in-threads = in-lines .before in
+    let a = at-start (at-read (in-threads .before)) .args in
     c .fields-of .ensures
     ∙ ap lineFields (c .before .line-at .ensures (wait 0 (constant 0)))
-    ∙ line-answered (now (a .program)) (r .result .header) is (a .thread) (a .line)
-    (c .before .before .before .if1 .left) (c .before .before .if2 .left)
+    ∙ line-answered (is-accepted (in-threads .before)) (a .thread) (a .line) (in-threads .if1 .left)
+    (in-lines .if2 .left)
 
 pub order-line-spec : {M : Type 1} → statement M
 order-line-spec =
@@ -95,8 +95,8 @@ order-line-spec =
     (λ c. search needs)
     (λ c κs. search needs)
     returns
-    mul-if2
-    array-read-if2
+    (λ c. omega (arith, in-row c))
+    (λ c. omega (arith, in-row c))
     (λ c κs. search needs)
     returns-2
     line-at-requires

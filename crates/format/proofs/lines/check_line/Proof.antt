@@ -1,36 +1,41 @@
 -- `format::lines::check_line` meets its contract. Check 3, and then what `check_fields` ensures of the fields.
 use Rattle.format.proofs.Turns.{record-fits, line-checked}
-use Rattle.format.specs.declared.checks.Fields.{Fields}
+use Rattle.records.specs.declared.Fields.{Fields}
 use Rattle.format.specs.Inner.{checkOf}
-use Rattle.program_bytes.specs.Format.{readLine, markIN, fieldsToLine}
+use Rattle.program_bytes.specs.Format.{isRecord, readLine, markIN, sizeIN, fieldsToLine}
 use Rattle.program_bytes.specs.Outcome.{check}
 use borrow.Author.Tests.{not-true, not-false}
 use lib.ListN.{drop}
 use denote.Ref.{now}
-use mathlib.Core.Path.{sym, _∙_, ap}
+use mathlib.Core.Bool.{true}
+use mathlib.Core.Path.{_≡_, sym, _∙_, ap}
 use borrow.Author.Needs.{needs}
 use Rattle.format.proofs.lines.check_line.Statement.{statement}
 use Rattle.format.proofs.lines.check_line.Tie as tie
 
+-- Past the test the IN record stands at the cursor.
+stands : (c : tie.Else1)
+    → let a = c .before .before .before .before .args in
+    isRecord markIN sizeIN (drop (a .at) (now (a .bytes))) ≡ true
+stands c = sym (c .before .is-record .ensures) ∙ not-false _ (c .if1 .left)
+
 returns : tie.Need-returns
 unfolding readLine check checkOf
-returns c =
-    rw (sym (c .before .is-record .ensures) ∙ not-true _ (c .if1 .taken))
+returns c = rw (sym (c .before .is-record .ensures) ∙ not-true _ (c .if1 .taken))
 
 fields-at-requires : tie.Need-fields-at-requires
 fields-at-requires c κs =
     let s = c .before .before .before .before in
-    record-fits markIN (now (s .args .bytes)) (s .args .at) 7 (s .pre) (sym (c .before .is-record .ensures)
-    ∙ not-false _ (c .if1 .left))
+    record-fits markIN (now (s .args .bytes)) (s .args .at) sizeIN (s .pre) (stands c)
 
 returns-2 : tie.Need-returns-2
 returns-2 c =
-    let a = c .before .before .before .before .before .before .args in
+    let there = c .before .before in
+    let a = there .before .before .before .before .args in
     c .check-fields .ensures
     ∙ ap (λ (f : Fields). checkOf (fieldsToLine (a .l) (a .k) (a .n) (f .op) (f .reg) (f .target) (f .a) (f .b)))
     (c .before .fields-at .ensures)
-    ∙ sym (line-checked (a .l) (a .k) (a .n) (drop (a .at) (now (a .bytes))) (sym
-    (c .before .before .before .is-record .ensures) ∙ not-false _ (c .before .before .if1 .left)))
+    ∙ sym (line-checked (a .l) (a .k) (a .n) (drop (a .at) (now (a .bytes))) (stands there))
 
 pub check-line-spec : {M : Type 1} → statement M
 check-line-spec =

@@ -1,5 +1,5 @@
 -- `format::lines::decode` meets its contract. Each arm is its row of the op table; what is no op has the first row.
-use Rattle.format.proofs.FirstRow.{first-row}
+use Rattle.records.proofs.FirstRow.{first-row}
 use Rattle.format.specs.Answer.{lineMeans}
 use Rattle.program_bytes.specs.Ops.{opTable, opAt, sumOp}
 use borrow.Author.Needs.{needs}
@@ -57,17 +57,7 @@ returns-10 c =
     let n = c .match .rest in
     rw (
       first-row (c .before .before .before .before .before .args .f .op)
-          (record {
-            ten = n .1;
-            nine = n .0 .1;
-            eight = n .0 .0 .1;
-            seven = n .0 .0 .0 .1;
-            six = n .0 .0 .0 .0 .1;
-            five = n .0 .0 .0 .0 .0 .1;
-            four = n .0 .0 .0 .0 .0 .0 .1;
-            three = n .0 .0 .0 .0 .0 .0 .0 .1;
-            two = n .0 .0 .0 .0 .0 .0 .0 .0 .1;
-          }),
+          n,
       c .before .before .operand-of .ensures,
       c .before .operand-of2 .ensures,
     )

@@ -1,0 +1,3 @@
+pub mod AtCursor
+pub mod RowTests
+pub mod FirstRow
