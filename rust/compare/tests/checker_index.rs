@@ -1,4 +1,5 @@
 //! The index at exit, written out by hand.
+#![forbid(unsafe_code)]
 
 use compare::checker::index_of;
 use order_check::numbers_indexed;

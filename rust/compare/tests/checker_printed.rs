@@ -1,10 +1,12 @@
 //! The printing program against the lines that the second program prints.
+#![forbid(unsafe_code)]
 
 use std::env;
 use std::path::{Path, PathBuf};
 
 use compare::checker::random_program;
-use models::{collection, encode};
+use models::collection;
+use program::encode;
 use random::{damage, Numbers};
 use second::{check, PRINTING};
 

@@ -1,8 +1,9 @@
 //! The two checkers on random programs and on damaged ones, each with several lengths of table, trace and index, and
 //! these with two fillings of what is lent and in memory that was used before.
+#![forbid(unsafe_code)]
 
 use compare::checker::{compare_program, random_program, Tally};
-use models::encode;
+use program::encode;
 use random::{damage, program, Numbers, Shape};
 
 #[test]

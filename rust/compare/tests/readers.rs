@@ -1,10 +1,10 @@
 //! The Rattle reader and the second reader give the same number or the same program.
+#![forbid(unsafe_code)]
 
 use compare::reader::difference;
 use models::collection::{self, Model};
-use models::encode;
+use program::{encode, read};
 use random::{damage, noise, program, Numbers, Shape};
-use second::read;
 
 fn models() -> Vec<Model> {
     let models = collection::load(&collection::directory()).unwrap();
