@@ -2,4 +2,5 @@
 #![deny(unsafe_code)]
 
 pub mod checker;
+pub mod printing;
 pub mod reader;
