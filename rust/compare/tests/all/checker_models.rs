@@ -1,5 +1,4 @@
 //! The two checkers on every model, in tables that just suffice and in others.
-#![forbid(unsafe_code)]
 
 use compare::checker::{difference, difference_in_one_call, index_lengths, Expected, Lengths};
 use models::collection;

@@ -1,5 +1,4 @@
 //! The cases of document 01 as the library answers them, in numbers.
-#![forbid(unsafe_code)]
 
 use models::collection;
 use order_check::numbers;

@@ -1,6 +1,5 @@
 //! The printing program on an input that goes on after its end, as a terminal does. A socket of datagrams is such an
 //! input: each datagram is what one read gets, an empty one is an end, and the next read waits for more.
-#![forbid(unsafe_code)]
 
 use std::io::Read;
 use std::os::fd::OwnedFd;

@@ -1,5 +1,4 @@
 //! The bytes of a place as docs/LAYOUT.md has them, written out by hand.
-#![forbid(unsafe_code)]
 
 use compare::checker::{decode, Written};
 use order_check::numbers;

@@ -1,5 +1,4 @@
 //! The printing program against the lines that the second program prints.
-#![forbid(unsafe_code)]
 
 use std::path::Path;
 

@@ -1,5 +1,4 @@
 //! The index at exit, written out by hand.
-#![forbid(unsafe_code)]
 
 use compare::checker::index_of;
 use order_check::numbers_indexed;

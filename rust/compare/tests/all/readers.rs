@@ -1,5 +1,4 @@
 //! The Rattle reader and the second reader give the same number or the same program.
-#![forbid(unsafe_code)]
 
 use compare::reader::difference;
 use models::collection::{self, Model};

@@ -1,6 +1,5 @@
 //! The two checkers on random programs and on damaged ones, each with several lengths of table, trace and index, and
 //! these with two fillings of what is lent and in memory that was used before.
-#![forbid(unsafe_code)]
 
 use compare::checker::{compare_program, random_program, Tally};
 use program::encode;

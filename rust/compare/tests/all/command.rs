@@ -1,5 +1,4 @@
 //! The command `order_read`.
-#![forbid(unsafe_code)]
 
 use std::process::Output;
 
