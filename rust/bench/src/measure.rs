@@ -2,7 +2,7 @@
 
 use std::time::{Duration, Instant};
 
-use answer::Report;
+use answer::{EightNumbers, Report};
 use program::{place_size, read};
 
 use crate::checkers::{plain, proved, Checker};
@@ -99,11 +99,11 @@ impl Lent {
         let start = Instant::now();
         let answer = self.call(checker);
         let time = start.elapsed();
-        assert_eq!(answer, Report::Robust { count: self.situations });
+        assert_eq!(answer, Report::Robust { count: self.situations }.numbers());
         time
     }
 
-    fn call(&mut self, checker: Checker) -> Report {
+    fn call(&mut self, checker: Checker) -> EightNumbers {
         checker(&self.program, &mut self.table, &mut self.trace, &mut self.index)
     }
 }

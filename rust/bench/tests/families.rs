@@ -26,7 +26,7 @@ fn robust(checker: Checker, family: &Family, size: &Size) -> Vec<u8> {
     let place = place_size(program.threads.len(), program.locations.into());
     let mut table = vec![0; place * size.situations];
     let answer = checker(&bytes, &mut table, &mut [], &mut vec![0; 2 * size.situations]);
-    let expected = Report::Robust { count: size.situations };
+    let expected = Report::Robust { count: size.situations }.numbers();
     assert_eq!(answer, expected, "{}, {:?}\n{}", family.name, size.rounds, family.text(size));
     table
 }
