@@ -1,4 +1,5 @@
 //! Links the proved checker, and tells the test that calls it from C where it stands.
+#![forbid(unsafe_code)]
 
 fn main() {
     let archive = link::link("order_check_c");

@@ -1,8 +1,10 @@
 //! Families of robust programs that grow, and the time that the proved checker and a plain one take on them.
+#![deny(unsafe_code)]
 
 pub mod checkers;
 pub mod families;
 pub mod measure;
+#[allow(unsafe_code)] // It runs a call on a stack of its own.
 mod stack;
 pub mod summary;
 pub mod table;

@@ -2,7 +2,8 @@
 
 use std::time::{Duration, Instant};
 
-use second::{place_size, read};
+use answer::{EightNumbers, Report};
+use program::{place_size, read};
 
 use crate::checkers::{plain, proved, Checker};
 use crate::families::{Family, Size};
@@ -98,11 +99,11 @@ impl Lent {
         let start = Instant::now();
         let answer = self.call(checker);
         let time = start.elapsed();
-        assert_eq!(answer, [0, 0, self.situations as u64, 0, 0, 0, 0, 0]);
+        assert_eq!(answer, Report::Robust { count: self.situations }.numbers());
         time
     }
 
-    fn call(&mut self, checker: Checker) -> [u64; 8] {
+    fn call(&mut self, checker: Checker) -> EightNumbers {
         checker(&self.program, &mut self.table, &mut self.trace, &mut self.index)
     }
 }

@@ -1,8 +1,11 @@
 //! The families are what the benchmark takes them for.
+#![forbid(unsafe_code)]
 
+use answer::Report;
 use bench::checkers::{plain, proved, Checker};
 use bench::families::{Family, Size, ALL};
-use second::{place_size, read, Ending, Search};
+use program::{place_size, read};
+use second::{Ending, Search};
 
 /// Larger programs are searched by the benchmark only, which holds them to the same.
 const LARGEST: usize = 150_000;
@@ -23,7 +26,7 @@ fn robust(checker: Checker, family: &Family, size: &Size) -> Vec<u8> {
     let place = place_size(program.threads.len(), program.locations.into());
     let mut table = vec![0; place * size.situations];
     let answer = checker(&bytes, &mut table, &mut [], &mut vec![0; 2 * size.situations]);
-    let expected = [0, 0, size.situations as u64, 0, 0, 0, 0, 0];
+    let expected = Report::Robust { count: size.situations }.numbers();
     assert_eq!(answer, expected, "{}, {:?}\n{}", family.name, size.rounds, family.text(size));
     table
 }

@@ -1,9 +1,10 @@
 //! The reader, `liborder_read_c.a`, and how it is compared with the second one.
 
 mod expected;
+#[allow(unsafe_code)] // It calls C.
 mod library;
 
-use second::read;
+use program::read;
 
 /// What the proved reader says of program bytes: T, L and K, or the number of the first failed check.
 pub fn verdict(bytes: &[u8]) -> Result<[usize; 3], usize> {

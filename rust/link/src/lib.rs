@@ -1,4 +1,5 @@
 //! For build scripts: links a static library of the Rattle side, which `rt` makes at the root of the repository.
+#![forbid(unsafe_code)]
 
 use std::env;
 use std::path::{Path, PathBuf};

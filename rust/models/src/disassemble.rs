@@ -2,8 +2,8 @@
 
 use std::fmt::{self, Display};
 
-use second::limits::LOCATIONS;
-use second::{read, Line, Operand, Program};
+use program::limits::LOCATIONS;
+use program::{read, Line, Operand, Program};
 
 use crate::names::register_name;
 

@@ -2,8 +2,8 @@
 
 use std::ops::RangeInclusive;
 
-use second::limits::REGISTERS;
-use second::{Line, Operand};
+use program::limits::REGISTERS;
+use program::{Line, Operand};
 
 use crate::cursor::Cursor;
 use crate::lexer::{Piece, Token};

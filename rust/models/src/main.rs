@@ -1,4 +1,5 @@
 //! The command `order_asm`: a model to program bytes, and back.
+#![forbid(unsafe_code)]
 
 use std::fs;
 use std::io::{self, Read, Write};

@@ -1,6 +1,6 @@
 //! Which words name a register, and which words may name nothing else.
 
-use second::limits::REGISTERS;
+use program::limits::REGISTERS;
 
 /// The words with a meaning of their own.
 const KEYWORDS: &[&str] = &["values", "locations", "thread", "if", "goto", "wait", "FADD", "CAS", "BCAS"];

@@ -1,7 +1,7 @@
 //! From the text of a model to its program: the header, the threads and their labels.
 
-use second::limits::{LINES, LOCATIONS, THREADS, VALUES};
-use second::{Line, Program};
+use program::limits::{LINES, LOCATIONS, THREADS, VALUES};
+use program::{Line, Program};
 
 use crate::cursor::Cursor;
 use crate::instruction::{Instruction, Scope, A_LABEL};

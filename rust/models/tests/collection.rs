@@ -1,9 +1,10 @@
 //! The models of this repository: each assembles, is accepted, and says what it expects.
+#![forbid(unsafe_code)]
 
 use std::fs;
 
 use models::collection::{self, Model, Verdict};
-use second::{read, Line, Operand};
+use program::{fields, read, Line, Operand};
 
 fn all() -> Vec<Model> {
     collection::load(&collection::directory()).unwrap()
@@ -83,7 +84,7 @@ fn the_cases_of_document_01_have_its_bytes() {
 fn the_models_use_every_op_and_registers_as_operands() {
     let lines: Vec<Line> =
         all().iter().flat_map(|model| read(&model.bytes).unwrap().threads).flatten().collect();
-    let ops: std::collections::BTreeSet<u8> = lines.iter().map(|line| models::fields(line)[0]).collect();
+    let ops: std::collections::BTreeSet<u8> = lines.iter().map(|line| fields(line)[0]).collect();
     assert_eq!(ops, (1..=10).collect());
     assert!(lines.iter().any(|line| matches!(line, Line::Write { a: Operand::Register(_), .. })));
 }

@@ -1,4 +1,5 @@
 //! The command `order_asm`, run as a user runs it.
+#![forbid(unsafe_code)]
 
 use std::fs;
 use std::path::{Path, PathBuf};

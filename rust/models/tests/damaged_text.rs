@@ -1,6 +1,8 @@
 //! Texts that are almost a model: whatever the assembler accepts the reader accepts, and it never breaks down.
+#![forbid(unsafe_code)]
 
-use models::{assemble, disassemble, encode};
+use models::{assemble, disassemble};
+use program::encode;
 use random::{program, Numbers, Shape};
 
 /// What stands in models, and some things that do not.
@@ -71,7 +73,7 @@ fn a_damaged_text_is_accepted_by_the_reader_or_has_a_mistake_in_it() {
         let text = damage(&mut numbers, &text);
         match assemble(text.as_bytes()) {
             Ok(bytes) => {
-                assert!(second::read(&bytes).is_ok(), "{text}");
+                assert!(program::read(&bytes).is_ok(), "{text}");
                 accepted += 1;
             }
             Err(mistake) => {

@@ -1,4 +1,5 @@
 //! What the assembler writes, against bytes written by hand from document 01.
+#![forbid(unsafe_code)]
 
 use models::assemble;
 
@@ -112,5 +113,5 @@ fn the_limits_themselves_are_allowed() {
     let bytes = assemble(text.as_bytes()).expect("a model at every limit");
     assert_eq!(bytes.len(), 5 + 8 * (3 + 64 * 7));
     assert_eq!(bytes[..15], *b"PR\x08\x08\x10TH\x40IN\x05\x00\x01\x83\x00");
-    assert!(second::read(&bytes).is_ok());
+    assert!(program::read(&bytes).is_ok());
 }

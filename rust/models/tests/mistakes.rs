@@ -1,4 +1,5 @@
 //! What the assembler says of a model with a mistake: the place, what was expected and what was found.
+#![forbid(unsafe_code)]
 
 use models::assemble;
 

@@ -1,9 +1,10 @@
 //! Assembling, disassembling and assembling again gives the same bytes, and the reader sees the program that was
 //! meant.
+#![forbid(unsafe_code)]
 
-use models::{assemble, collection, disassemble, encode};
+use models::{assemble, collection, disassemble};
+use program::{encode, read};
 use random::{damage, program, Numbers, Shape};
-use second::read;
 
 /// The bytes are an accepted program, and its text assembles to them.
 #[track_caller]

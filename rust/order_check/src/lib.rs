@@ -22,10 +22,9 @@
 //! // The same by an index, of two slots for each place that there will be.
 //! assert_eq!(check_indexed(program, &mut table, &mut trace, &mut [0; 14]), stale);
 //! ```
+#![deny(unsafe_code)]
 
-mod report;
-
-pub use report::{Kind, Report};
+pub use answer::{EightNumbers, Kind, Report};
 
 /// Checks program bytes in the lent table.
 ///
@@ -40,7 +39,7 @@ pub use report::{Kind, Report};
 ///
 /// Never with the proved library; with another one, where it answers what the proved one cannot.
 pub fn check(program: &[u8], table: &mut [u8], trace: &mut [u8]) -> Report {
-    Report::of(numbers(program, table, trace))
+    report_of(numbers(program, table, trace))
 }
 
 /// The same with a lent index: the report, the table and the trace are those of [`check`] for every index, of any
@@ -55,12 +54,19 @@ pub fn check(program: &[u8], table: &mut [u8], trace: &mut [u8]) -> Report {
 ///
 /// As [`check`] does.
 pub fn check_indexed(program: &[u8], table: &mut [u8], trace: &mut [u8], index: &mut [u64]) -> Report {
-    Report::of(numbers_indexed(program, table, trace, index))
+    report_of(numbers_indexed(program, table, trace, index))
+}
+
+/// The report that the library's numbers stand for.
+fn report_of(numbers: EightNumbers) -> Report {
+    Report::of(numbers)
+        .unwrap_or_else(|| unreachable!("order_check answered {numbers:?}, which the proved library cannot"))
 }
 
 /// [`check`] in eight numbers, for those who compare them with what the C header `order_check.h` says: verdict, number,
 /// count, steps, thread, kind, location, value.
-pub fn numbers(program: &[u8], table: &mut [u8], trace: &mut [u8]) -> [u64; 8] {
+#[allow(unsafe_code)] // It calls C.
+pub fn numbers(program: &[u8], table: &mut [u8], trace: &mut [u8]) -> EightNumbers {
     let mut answer = UNANSWERED;
     // SAFETY: the library reads the program, reads and writes within the lengths of table and trace, writes the eight
     // numbers of the answer, and keeps nothing. No two of the four borrows overlap.
@@ -79,7 +85,13 @@ pub fn numbers(program: &[u8], table: &mut [u8], trace: &mut [u8]) -> [u64; 8] {
 }
 
 /// [`check_indexed`] in the same eight numbers.
-pub fn numbers_indexed(program: &[u8], table: &mut [u8], trace: &mut [u8], index: &mut [u64]) -> [u64; 8] {
+#[allow(unsafe_code)] // As above.
+pub fn numbers_indexed(
+    program: &[u8],
+    table: &mut [u8],
+    trace: &mut [u8],
+    index: &mut [u64],
+) -> EightNumbers {
     let mut answer = UNANSWERED;
     // SAFETY: as above, and the index is read and written within its length too. No two of the five borrows overlap.
     unsafe {
@@ -99,7 +111,7 @@ pub fn numbers_indexed(program: &[u8], table: &mut [u8], trace: &mut [u8], index
 }
 
 /// The library writes every field: these numbers are none of its answers.
-const UNANSWERED: [u64; 8] = [u64::MAX; 8];
+const UNANSWERED: EightNumbers = [u64::MAX; 8];
 
 extern "C" {
     fn order_check(
@@ -109,7 +121,7 @@ extern "C" {
         table_len: usize,
         trace: *mut u8,
         trace_len: usize,
-        answer: *mut [u64; 8],
+        answer: *mut EightNumbers,
     );
 
     fn order_check_indexed(
@@ -121,6 +133,17 @@ extern "C" {
         trace_len: usize,
         index: *mut u64,
         index_len: usize,
-        answer: *mut [u64; 8],
+        answer: *mut EightNumbers,
     );
+}
+
+#[cfg(test)]
+mod tests {
+    use super::{report_of, UNANSWERED};
+
+    #[test]
+    #[should_panic(expected = "which the proved library cannot")]
+    fn an_answer_that_was_not_written_is_no_report() {
+        report_of(UNANSWERED);
+    }
 }

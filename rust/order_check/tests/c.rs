@@ -1,4 +1,5 @@
 //! A program in C calls the library by its header. The compiler is the one that links Rust programs.
+#![forbid(unsafe_code)]
 
 use std::path::Path;
 use std::process::Command;

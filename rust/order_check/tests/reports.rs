@@ -1,4 +1,5 @@
 //! The cases of document 01 as a user of the crate gets them.
+#![forbid(unsafe_code)]
 
 use order_check::{check, check_indexed, Kind, Report};
 

@@ -1,6 +1,6 @@
 //! Where the parts of a place stand: docs/LAYOUT.md.
 
-use second::{place_size, Program};
+use program::{place_size, Program};
 
 /// The thread, after the place it was reached from.
 pub const BY: usize = 4;
@@ -86,7 +86,7 @@ impl Layout {
 #[cfg(test)]
 mod tests {
     use super::Layout;
-    use second::Program;
+    use program::Program;
 
     #[test]
     fn the_last_row_ends_the_place() {

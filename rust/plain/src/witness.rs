@@ -1,6 +1,7 @@
 //! The witness test on the bytes of a place: `crates/rules/specs/Test.antt`.
 
-use second::{Kind, Line};
+use answer::Kind;
+use program::Line;
 
 use crate::layout::SET;
 use crate::step::Stepper;

@@ -1,4 +1,5 @@
 //! Random programs and damaged bytes for tests that compare two programs. All of it is fixed by the seed.
+#![forbid(unsafe_code)]
 
 mod damage;
 mod numbers;

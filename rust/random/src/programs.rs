@@ -2,8 +2,8 @@
 
 use std::ops::RangeInclusive;
 
-use second::limits::{LINES, LOCATIONS, REGISTERS, THREADS, VALUES};
-use second::{Line, Operand, Program};
+use program::limits::{LINES, LOCATIONS, REGISTERS, THREADS, VALUES};
+use program::{Line, Operand, Program};
 
 use crate::Numbers;
 

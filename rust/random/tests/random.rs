@@ -1,11 +1,12 @@
 //! The generator makes what it says it makes, and the same again for the same seed.
+#![forbid(unsafe_code)]
 
 use std::collections::HashSet;
 use std::mem::discriminant;
 
+use program::limits::{LINES, LOCATIONS, REGISTERS, THREADS, VALUES};
+use program::{Line, Operand, Program};
 use random::{damage, noise, program, Numbers, Shape};
-use second::limits::{LINES, LOCATIONS, REGISTERS, THREADS, VALUES};
-use second::{Line, Operand, Program};
 
 fn programs(seed: u64, count: usize, shape: &Shape) -> Vec<Program> {
     let mut numbers = Numbers::new(seed);

@@ -1,9 +1,11 @@
 //! The programs that checkers are compared on reach what such a comparison is for.
+#![forbid(unsafe_code)]
 
 use std::collections::BTreeMap;
 
+use program::{Line, Operand, Program};
 use random::{program, Numbers, Shape};
-use second::{Ending, Kind, Line, Operand, Program, Search, ThreadPart};
+use second::{Ending, Kind, Search, ThreadPart};
 
 /// How often each thing was met.
 #[derive(Default)]

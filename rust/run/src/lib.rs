@@ -1,4 +1,5 @@
 //! Runs a command as a user runs it, for tests.
+#![forbid(unsafe_code)]
 
 use std::io::Write;
 use std::path::Path;

@@ -1,4 +1,5 @@
 //! The command `second`: what document 01's printing program prints for the program bytes on standard input.
+#![forbid(unsafe_code)]
 
 use std::io::{self, Read, Write};
 use std::process::ExitCode;

@@ -3,7 +3,8 @@
 use std::fmt::{self, Display, Formatter};
 use std::ops::RangeInclusive;
 
-use crate::read::read;
+use program::{places_available, read};
+
 use crate::search::{Ending, Place, Search};
 use crate::thread::Kind;
 use crate::witness::Witness;
@@ -34,18 +35,6 @@ pub struct Report {
     pub places: Vec<Place>,
     /// The bytes that the trace gets at its front; empty where it is unchanged.
     pub trace: Vec<u8>,
-}
-
-/// "N, the places available, is the lent length divided by the place size, at most 1,000,000,000."
-pub fn places_available(table: usize, threads: usize, locations: usize) -> usize {
-    (table / place_size(threads, locations)).min(MOST_PLACES)
-}
-
-const MOST_PLACES: usize = 1_000_000_000;
-
-/// "A place has 9 + T × (6 + 4L) + L × (3 + 4L) bytes".
-pub fn place_size(threads: usize, locations: usize) -> usize {
-    9 + threads * (6 + 4 * locations) + locations * (3 + 4 * locations)
 }
 
 /// The printing program has "a table of 49,152 bytes and a trace of 4,096".

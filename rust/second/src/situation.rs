@@ -1,7 +1,8 @@
 //! The situation of a state, read off its graph: document 01, section "Situations".
 
+use program::limits::{LOCATIONS, REGISTERS};
+
 use crate::events::Events;
-use crate::limits::{LOCATIONS, REGISTERS};
 use crate::state::{History, State};
 use crate::thread::Thread;
 

@@ -1,7 +1,7 @@
 //! Thread states, and what a thread's next line does: document 01, the op table and section "Graphs".
 
-use crate::limits::REGISTERS;
-use crate::program::{Line, Operand};
+use program::limits::REGISTERS;
+use program::{Line, Operand};
 
 /// "A thread state is a thread's line and registers."
 #[derive(Clone, Copy, Debug, PartialEq, Eq, Hash)]

@@ -1,6 +1,7 @@
 //! Witnesses: document 01, section "Graphs", last paragraph.
 
-use crate::program::Program;
+use program::Program;
+
 use crate::state::{History, State};
 use crate::thread::{Action, Kind, Next};
 

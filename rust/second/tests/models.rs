@@ -1,9 +1,11 @@
 //! Every model of the repository gets the verdict that it expects.
+#![forbid(unsafe_code)]
 
 use std::fs;
 
 use models::collection::{self, Verdict};
-use second::{read, Ending, Search};
+use program::read;
+use second::{Ending, Search};
 
 /// More places than any model needs.
 const PLACES: usize = 100_000;

@@ -1,4 +1,5 @@
 //! The command `second`, run as a user runs it.
+#![forbid(unsafe_code)]
 
 use std::process::Output;
 

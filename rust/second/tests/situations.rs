@@ -1,6 +1,8 @@
 //! Situations worked out by hand from the graphs of short runs.
+#![forbid(unsafe_code)]
 
-use second::{read, LocationPart, Program, Situation, State, ThreadPart};
+use program::{read, Program};
+use second::{LocationPart, Situation, State, ThreadPart};
 
 const X: u16 = 0b01;
 const Y: u16 = 0b10;

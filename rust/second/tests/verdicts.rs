@@ -1,7 +1,8 @@
 //! The cases of document 01, each with its lent lengths.
+#![forbid(unsafe_code)]
 
 use models::collection;
-use second::{check, place_size, places_available, Answer, Kind, Report, Witness};
+use second::{check, Answer, Kind, Report, Witness};
 
 const TRACE: usize = 4_096;
 
@@ -88,14 +89,4 @@ fn places_say_where_they_were_reached_from() {
     };
     assert_eq!(found("sb"), [(0, 0), (1, 1), (1, 2), (2, 1), (2, 2), (3, 2), (4, 2)]);
     assert_eq!(found("barrier"), [(0, 0), (1, 1), (1, 2), (2, 2), (4, 1), (4, 2), (5, 2)]);
-}
-
-#[test]
-fn a_place_has_the_size_of_document_01() {
-    assert_eq!(place_size(2, 2), 59);
-    assert_eq!(place_size(1, 1), 26);
-    assert_eq!(place_size(8, 8), 593);
-    assert_eq!(places_available(59 * 7 - 1, 2, 2), 6);
-    assert_eq!(places_available(59 * 7, 2, 2), 7);
-    assert_eq!(places_available(usize::MAX, 1, 1), 1_000_000_000);
 }

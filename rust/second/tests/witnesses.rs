@@ -1,7 +1,9 @@
 //! What is named of a state with a witness, at states that schedules lead to.
+#![forbid(unsafe_code)]
 
-use second::Operand::Constant;
-use second::{witness, Kind, Line, Program, State, Witness};
+use program::Operand::Constant;
+use program::{Line, Program};
+use second::{witness, Kind, State, Witness};
 
 const X: u8 = 0;
 const Y: u8 = 1;

@@ -1,4 +1,5 @@
 //! `order_bench [MOST [FAMILY..]]`: measures the proved checker and the plain one on families of robust programs.
+#![forbid(unsafe_code)]
 
 use std::process::ExitCode;
 

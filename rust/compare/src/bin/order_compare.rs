@@ -1,10 +1,11 @@
 //! `order_compare [PROGRAMS [SEED]]`: compares the two checkers on random programs, 100,000 if not said otherwise.
+#![forbid(unsafe_code)]
 
 use std::process::ExitCode;
 use std::time::Instant;
 
 use compare::checker::{compare_program, random_program, Tally};
-use models::encode;
+use program::encode;
 use random::Numbers;
 
 const USAGE: &str = "usage: order_compare [PROGRAMS [SEED]]   (100000 programs of seed 1 if not given)";

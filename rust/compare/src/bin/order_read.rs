@@ -1,4 +1,5 @@
 //! `order_read [FILE]`: what the proved reader says of program bytes, of a file or of standard input.
+#![forbid(unsafe_code)]
 
 use std::io::{self, Read};
 use std::process::ExitCode;

@@ -1,5 +1,6 @@
 //! Where the library, or the plain checker, answers or writes otherwise than the second program.
 
+use answer::EightNumbers;
 use order_check::numbers_indexed;
 use random::Numbers;
 use second::Report;
@@ -10,10 +11,14 @@ use super::lent::Lent;
 use super::run::Run;
 
 /// A checker: it gets program, table and trace, and answers with the numbers of the exported function.
-type Checker = fn(&[u8], &mut [u8], &mut [u8]) -> [u64; 8];
+type Checker = fn(&[u8], &mut [u8], &mut [u8]) -> EightNumbers;
 
 /// Those that are compared with the second program, each by its name, the proved one first.
-const CHECKERS: [(&str, Checker); 2] = [("proved", order_check::numbers), ("plain", plain::check)];
+const CHECKERS: [(&str, Checker); 2] = [("proved", order_check::numbers), ("plain", plain_numbers)];
+
+fn plain_numbers(program: &[u8], table: &mut [u8], trace: &mut [u8]) -> EightNumbers {
+    plain::check(program, table, trace).numbers()
+}
 
 /// Where a checker differs with these lengths, if one does: in its answer, in a byte of table or trace, or in a byte
 /// beside them. What was lent must not matter: it is called with two fillings of which each is the other's complement,

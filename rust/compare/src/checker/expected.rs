@@ -1,6 +1,8 @@
-//! What the second program says, in the numbers of the library.
+//! What the second program says, and whether a checker says the same.
 
-use second::{place_size, places_available, read, Answer, Kind, Program, Report, Search, Witness};
+use answer::{EightNumbers, Kind, Report};
+use program::{place_size, places_available, read, Program};
+use second::{Answer, Search, Witness};
 
 /// How much is lent.
 #[derive(Clone, Copy, Debug, PartialEq, Eq)]
@@ -49,11 +51,11 @@ impl Expected {
     }
 
     /// The report for these lengths.
-    pub fn report(&self, lengths: Lengths) -> Report {
+    pub fn report(&self, lengths: Lengths) -> second::Report {
         match &self.program {
             Err(number) => {
                 let answer = Answer::Refused { number: *number };
-                Report { answer, places: Vec::new(), trace: Vec::new() }
+                second::Report { answer, places: Vec::new(), trace: Vec::new() }
             }
             Ok((_, search)) => {
                 let (threads, locations) = self.sizes();
@@ -63,29 +65,22 @@ impl Expected {
     }
 }
 
-/// Whether the library's numbers are the second program's answer. Only the wanted length is free, within its bounds.
-pub(super) fn agrees(found: [u64; 8], expected: &Answer) -> bool {
-    let number = |number: usize| number as u64;
-    let same = match *expected {
-        Answer::Robust { count } => [0, 0, number(count), 0, 0, 0, 0, 0],
+/// Whether a checker's numbers are the second program's answer. Only the wanted length is free, within its bounds.
+pub(super) fn agrees(found: EightNumbers, expected: &Answer) -> bool {
+    Report::of(found).is_some_and(|found| match *expected {
+        Answer::Robust { count } => found == Report::Robust { count },
         Answer::NotRobust { count, steps, witness: Witness { thread, kind, location, value } } => {
             let kind = match kind {
-                Kind::Read => 1,
-                Kind::Write => 2,
-                Kind::Update => 3,
+                second::Kind::Read => Kind::Read,
+                second::Kind::Write => Kind::Write,
+                second::Kind::Update => Kind::Update,
             };
-            let (thread, location) = (number(thread), number(location));
-            [1, 0, number(count), number(steps), thread, kind, location, value.into()]
+            found == Report::NotRobust { count, steps, thread, kind, location, value }
         }
-        Answer::Full { count } => [2, 11, number(count), 0, 0, 0, 0, 0],
+        Answer::Full { count } => found == Report::Full { count },
         Answer::ShortTrace { ref wanted } => {
-            let length = found[3];
-            if !wanted.contains(&(length as usize)) {
-                return false;
-            }
-            [3, 10, 0, length, 0, 0, 0, 0]
+            matches!(found, Report::Short { wanted: length } if wanted.contains(&length))
         }
-        Answer::Refused { number } => [3, number.into(), 0, 0, 0, 0, 0, 0],
-    };
-    found == same
+        Answer::Refused { number } => found == Report::Refused { number },
+    })
 }

@@ -3,8 +3,9 @@
 use std::fmt::{self, Display, Formatter};
 
 use models::disassemble;
+use program::Program;
 use random::{program, Numbers, Shape};
-use second::{Answer, Ending, Program};
+use second::{Answer, Ending};
 
 use super::difference::difference;
 use super::expected::{Expected, Lengths};

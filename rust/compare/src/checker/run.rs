@@ -1,5 +1,6 @@
 //! One call of a checker, and where it answers or writes otherwise than the second program.
 
+use answer::EightNumbers;
 use second::Report;
 
 use super::expected::{agrees, Expected, Lengths};
@@ -8,7 +9,7 @@ use super::place::decode;
 
 /// One call of a checker.
 pub struct Run {
-    answer: [u64; 8],
+    answer: EightNumbers,
     table: Lent<u8>,
     trace: Lent<u8>,
 }
@@ -16,7 +17,7 @@ pub struct Run {
 impl Run {
     /// A call by a function that gets table and trace, each filled by its places.
     pub fn filled(
-        call: impl FnOnce(&mut [u8], &mut [u8]) -> [u64; 8],
+        call: impl FnOnce(&mut [u8], &mut [u8]) -> EightNumbers,
         lengths: Lengths,
         filling: impl Fn(usize) -> u8,
     ) -> Run {
@@ -24,12 +25,12 @@ impl Run {
     }
 
     /// A call in the memory that this one left.
-    pub fn again(&self, call: impl FnOnce(&mut [u8], &mut [u8]) -> [u64; 8]) -> Run {
+    pub fn again(&self, call: impl FnOnce(&mut [u8], &mut [u8]) -> EightNumbers) -> Run {
         Run::new(call, self.table.again(), self.trace.again())
     }
 
     fn new(
-        call: impl FnOnce(&mut [u8], &mut [u8]) -> [u64; 8],
+        call: impl FnOnce(&mut [u8], &mut [u8]) -> EightNumbers,
         mut table: Lent<u8>,
         mut trace: Lent<u8>,
     ) -> Run {

@@ -1,6 +1,6 @@
 //! What the library must answer, worked out from what the second program reads.
 
-use second::{Line, Operand, Program};
+use program::{Line, Operand, Program};
 
 use super::library;
 

@@ -1,11 +1,13 @@
 //! The second checker against the meaning itself: robustness by all release/acquire runs, and the numbering of
 //! situations by all schedules, on programs small enough for that.
+#![forbid(unsafe_code)]
 
 mod runs;
 
 use models::collection::{self, Verdict};
+use program::{read, Line, Program};
 use random::{program, Numbers, Shape};
-use second::{read, Ending, Line, Program, Search, Situation, State};
+use second::{Ending, Search, Situation, State};
 
 /// More than any program here needs.
 const PLACES: usize = 100_000;

@@ -1,6 +1,6 @@
 //! From a program to its bytes: document 01, section "Program bytes".
 
-use second::{Line, Operand, Program};
+use crate::data::{Line, Operand, Program};
 
 /// The bytes of a program that keeps to the limits.
 pub fn encode(program: &Program) -> Vec<u8> {

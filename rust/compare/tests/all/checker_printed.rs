@@ -1,18 +1,13 @@
 //! The printing program against the lines that the second program prints.
 
-use std::env;
-use std::path::{Path, PathBuf};
+use std::path::Path;
 
 use compare::checker::random_program;
-use models::{collection, encode};
+use compare::printing::program;
+use models::collection;
+use program::encode;
 use random::{damage, Numbers};
 use second::{check, PRINTING};
-
-/// `target/bin/order_check` at the root of the repository, or the program that `ORDER_CHECK` names.
-fn program() -> PathBuf {
-    let made = Path::new(env!("CARGO_MANIFEST_DIR")).join("../../target/bin/order_check");
-    env::var_os("ORDER_CHECK").map_or(made, PathBuf::from)
-}
 
 #[track_caller]
 fn same(bytes: &[u8]) {

@@ -1,6 +1,7 @@
 //! Checks 1 to 9 of document 01, each at its limits, and which of two failures wins.
+#![forbid(unsafe_code)]
 
-use second::read;
+use program::read;
 
 /// The number of the check that fails, 0 for an accepted program.
 fn answer(bytes: &[u8]) -> u8 {

@@ -2,9 +2,8 @@
 
 use compare::reader::difference;
 use models::collection::{self, Model};
-use models::encode;
+use program::{encode, read};
 use random::{damage, noise, program, Numbers, Shape};
-use second::read;
 
 fn models() -> Vec<Model> {
     let models = collection::load(&collection::directory()).unwrap();

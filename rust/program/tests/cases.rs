@@ -1,7 +1,8 @@
 //! The cases of document 01 that its reader decides, byte by byte.
+#![forbid(unsafe_code)]
 
-use second::Operand::{Constant, Register};
-use second::{read, Line, Program};
+use program::Operand::{Constant, Register};
+use program::{read, Line, Program};
 
 /// SB: x := 1; read y ‖ y := 1; read x; K = 2.
 const SB: &[u8] = b"PR\x02\x02\x02TH\x02IN\x05\x00\x00\x01\x00IN\x06\x00\x01\x00\x00\

@@ -2,7 +2,7 @@
 //! these with two fillings of what is lent and in memory that was used before.
 
 use compare::checker::{compare_program, random_program, Tally};
-use models::encode;
+use program::encode;
 use random::{damage, program, Numbers, Shape};
 
 #[test]

@@ -1,7 +1,7 @@
 //! The reader: document 01, section "Checks, in this order, the first failure wins", checks 1 to 9.
 
+use crate::data::{Line, Operand, Program};
 use crate::limits::{LINES, LOCATIONS, REGISTERS, THREADS, VALUES};
-use crate::program::{Line, Operand, Program};
 
 /// The program that the bytes spell, or the number 1 to 9 of the first check that fails.
 pub fn read(bytes: &[u8]) -> Result<Program, u8> {

@@ -1,0 +1,57 @@
+//! What the checker reports.
+
+/// The answer to a program in a lent table.
+#[derive(Clone, Copy, Debug, PartialEq, Eq)]
+pub enum Report {
+    /// RB: the program is robust. Every release/acquire run of it, of any length, ends in thread states and an
+    /// execution graph that some SC run reaches too. The trace is unchanged.
+    Robust {
+        /// How many situations the program has; each has its place in the table.
+        count: usize,
+    },
+    /// NR: the program is not robust. The trace starts with the threads, from 1, whose turns make an SC run of `steps`
+    /// steps. After it the next line of `thread` may go by a write that is no longer the newest, and no SC run builds
+    /// the graph that it leaves.
+    NotRobust {
+        /// How many places are written. The last one is where the run ends.
+        count: usize,
+        /// How many steps the run has, which is how many bytes of the trace are written.
+        steps: usize,
+        /// The lowest thread, from 1, that can make such an access there.
+        thread: usize,
+        /// What kind of access it is.
+        kind: Kind,
+        /// The location of the access.
+        location: usize,
+        /// The smallest value of an older write that it may read, or may come directly after.
+        value: u8,
+    },
+    /// 11, printed as FU: undecided, for want of places. All are written, none shows the program not to be robust, and
+    /// it has more situations: a larger table may decide. The trace is unchanged.
+    Full {
+        /// How many places are written: as many as the table has.
+        count: usize,
+    },
+    /// 10: the program is not robust, but the trace is too short for the steps of the run, and unchanged. The table is
+    /// written as for [`Report::NotRobust`].
+    Short {
+        /// A trace of this length suffices: to see the run, call again with one.
+        wanted: usize,
+    },
+    /// The bytes are no program. All that was lent is unchanged.
+    Refused {
+        /// The first check that failed, 1 to 9, as README.md at the root of the repository lists them.
+        number: u8,
+    },
+}
+
+/// The kind of an access.
+#[derive(Clone, Copy, Debug, PartialEq, Eq)]
+pub enum Kind {
+    /// R: a read. So is a CAS that fails.
+    Read,
+    /// W: a write.
+    Write,
+    /// M: a read-modify-write.
+    Update,
+}

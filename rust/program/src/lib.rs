@@ -1,0 +1,14 @@
+//! The words of document 01 that all crates share: programs as data and as bytes, their limits, and the sizes of their
+//! places. The reader was written from document 01 alone, apart from the proved one that it is compared with.
+#![forbid(unsafe_code)]
+
+mod data;
+mod encode;
+pub mod limits;
+mod places;
+mod read;
+
+pub use data::{Line, Operand, Program};
+pub use encode::{encode, fields};
+pub use places::{place_size, places_available};
+pub use read::read;

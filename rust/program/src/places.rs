@@ -1,0 +1,13 @@
+//! The places of a lent table: document 01, section "Table".
+
+/// "A place has 9 + T × (6 + 4L) + L × (3 + 4L) bytes".
+pub const fn place_size(threads: usize, locations: usize) -> usize {
+    9 + threads * (6 + 4 * locations) + locations * (3 + 4 * locations)
+}
+
+/// "N, the places available, is the lent length divided by the place size, at most 1,000,000,000."
+pub fn places_available(table: usize, threads: usize, locations: usize) -> usize {
+    (table / place_size(threads, locations)).min(MOST_PLACES)
+}
+
+const MOST_PLACES: usize = 1_000_000_000;
