@@ -18,7 +18,7 @@
 extern "C" {
 #endif
 
-/* The numbers of an answer, by their index. All of them are written by every call; what a verdict does not use is 0. */
+/* The numbers of an answer, by their index. Every call writes all of them; what a verdict does not use is 0. */
 enum {
     /* The verdict: one of the four below. */
     ORDER_VERDICT = 0,
@@ -34,8 +34,9 @@ enum {
        at least the number of steps and at most the number of places written. */
     ORDER_STEPS = 3,
 
-    /* For ORDER_NR, as all that follows: the lowest thread, from 1, whose next line can, after these steps, build a graph
-       that no SC run builds. */
+    /* For ORDER_NR, as all that follows: the lowest thread, from 1, that has a witness after these steps. A witness is
+       an access of the thread's next line that release/acquire allows with a write other than the newest, where the
+       newest comes in SC order before some event of that thread. */
     ORDER_THREAD = 4,
 
     /* The kind of its access: one of the three below. */
@@ -44,7 +45,8 @@ enum {
     /* The location of its access, from 0. */
     ORDER_LOCATION = 6,
 
-    /* The smallest stale value that it may use: that of an older write that it reads, or comes directly after. */
+    /* The smallest stale value of a witness of that thread: that of an older write that it reads, or comes directly
+       after. */
     ORDER_VALUE = 7,
 
     /* How many numbers an answer has. */
@@ -57,8 +59,8 @@ enum {
        that some SC run reaches too. */
     ORDER_RB = 0,
 
-    /* Not robust: the trace has the steps of an SC run, and after it the named access, by a write that is no longer the
-       newest, builds a graph that no SC run builds. */
+    /* Not robust: the trace has the steps of an SC run. They are a release/acquire run too, and there the named
+       access, by a write that is no longer the newest, is one step more; no SC run builds the graph after it. */
     ORDER_NR = 1,
 
     /* Undecided: the places did not suffice. A longer table may decide. */
@@ -70,8 +72,8 @@ enum {
 
 /* The two checks after the search. */
 enum {
-    /* With ORDER_REFUSED: the program is not robust, but the trace is too short for the steps. Call again with a trace
-       of the length in ORDER_STEPS. */
+    /* With ORDER_REFUSED: the program is not robust, but the trace is too short for steps that show it. A trace of the
+       length in ORDER_STEPS has room for them. */
     ORDER_TRACE_SHORT = 10,
 
     /* With ORDER_FU. */
@@ -100,9 +102,9 @@ enum {
  *
  * answer: gets ORDER_FIELDS numbers.
  *
- * All memory is the caller's. The function allocates nothing, keeps no pointer and no other state after it returns, and
- * may run on several threads at once, each with memory of its own. What table, trace and answer held before changes no
- * answer.
+ * All memory is the caller's. The function allocates nothing, keeps no pointer and no other state after it returns,
+ * and may run on several threads at once, each with memory of its own. What table, trace and answer held before
+ * changes no answer.
  *
  * No pointer may be null, also where its length is 0, and answer is aligned as uint64_t is. The four do not overlap,
  * and nothing else writes to them, or reads table, trace or answer, before the call returns.
@@ -114,15 +116,15 @@ void order_check(const uint8_t *program, size_t program_len, uint8_t *table, siz
  * The same with a lent index, for large tables: its answer, and what it leaves in table and trace, are those of
  * order_check for every index of every length, also 0.
  *
- * index, index_len: slots by which the search finds the places of a fingerprint. As many places as half of its length are
- *     found by it, the first ones; those after them are compared one by one. With twice as many slots as there will be
- *     places the time for a place does not grow with their number, as far as their fingerprints are spread; without an
- *     index, as in order_check, it does. What the index held before changes nothing.
+ * index, index_len: slots by which the search finds the places of a fingerprint. As many places as half of its length
+ *     are found by it, the first ones; those after them are compared one by one. With twice as many slots as there
+ *     will be places the time for a place does not grow with their number, as far as their fingerprints are spread;
+ *     without an index, as in order_check, it does. What the index held before changes nothing.
  *     It stays as it is where the bytes are no program. Else all of it is written: 0 in an empty slot, and for a place
  *     its fingerprint times 2^32 plus its number, from 1.
  *
- * All that is said above of whose memory it is holds for index too: it is not null, it is aligned as uint64_t is, it does
- * not overlap the others, and nothing else uses it before the call returns.
+ * All that is said above of whose memory it is holds for index too: it is not null, it is aligned as uint64_t is, it
+ * does not overlap the others, and nothing else uses it before the call returns.
  */
 void order_check_indexed(const uint8_t *program, size_t program_len, uint8_t *table, size_t table_len, uint8_t *trace,
                          size_t trace_len, uint64_t *index, size_t index_len, uint64_t answer[ORDER_FIELDS]);

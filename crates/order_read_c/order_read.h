@@ -76,15 +76,15 @@ struct order_read_line {
 /*
  * Reads program bytes. Any bytes and any length are answered.
  *
- * program, program_len: the bytes. They are read only. The pointer is not null, also where the length is 0, and nothing
- *     writes to them before the call returns.
+ * program, program_len: the bytes. They are read only. The pointer is not null, also where the length is 0, and
+ *     nothing writes to them before the call returns.
  *
  * The function allocates nothing, keeps no pointer and no other state after it returns, and may run on several threads
  * at once. All of this holds for order_line too.
  */
 struct order_read_header order_read(const uint8_t *program, size_t program_len);
 
-/* Reads program bytes and gives a line of them; threads and their lines are counted from 0. Any numbers are answered. */
+/* Reads program bytes and gives a line of them; threads and lines are counted from 0. Any numbers are answered. */
 struct order_read_line order_line(const uint8_t *program, size_t program_len, size_t thread, size_t line);
 
 #ifdef __cplusplus

@@ -17,7 +17,7 @@ pub enum Report {
         count: usize,
         /// How many steps the run has, which is how many bytes of the trace are written.
         steps: usize,
-        /// The lowest thread, from 1, that can make such an access there.
+        /// The lowest thread, from 1, that has a witness there, which is such an access.
         thread: usize,
         /// What kind of access it is.
         kind: Kind,
