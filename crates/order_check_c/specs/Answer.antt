@@ -7,7 +7,7 @@ use Rattle.program.specs.declared.Kind.{Kind}
 use Rattle.program.specs.declared.Kind.the-variants.{Read, Write, Update}
 use Rattle.program_bytes.specs.Outcome.{Outcome}
 use Rattle.rules.specs.declared.Ending.{Ending}
-use Rattle.rules.specs.Ending.{threadNumber}
+use Rattle.rules.specs.ThreadNumber.{threadNumber}
 use Rattle.report.specs.Number.{checkNumber}
 use Rattle.report.specs.declared.Report.{Report}
 use Rattle.report.specs.declared.Report.the-variants.{Robust, Ended, Full, Short, Refused}

@@ -12,7 +12,7 @@ ghost use Prim.Native.Nat.{_≤_, min};
 ghost use lib.ListN.{length};
 ghost use Rattle.report.specs.Text.{textOf, longestText, laid};
 
-// What the checker has to say of a program.
+// What the checker has to say of a program. The thread of an ending is numbered from 0; what is printed counts from 1.
 pub enum Report {
     Robust {
         count: usize,

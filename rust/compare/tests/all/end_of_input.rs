@@ -52,7 +52,6 @@ fn has_ended(program: &mut Child, time: Duration) -> bool {
 }
 
 #[test]
-#[ignore = "until the printing program takes the first end for the end"]
 fn the_first_end_is_the_end() {
     assert_eq!(printed(&[b"PR\x01\x01\x02TH\x00", END]).as_deref(), Some("RB 1\n"));
     assert_eq!(printed(&[END]).as_deref(), Some("NO 1\n"));

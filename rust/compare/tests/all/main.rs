@@ -9,6 +9,8 @@ mod checker_printed;
 mod checker_random;
 mod command;
 mod end_of_input;
+mod failures;
+mod reader_c;
 mod readers;
 
 /// A file that no `mod` names would not be compiled, and its tests be lost unseen.
