@@ -34,11 +34,5 @@ returns c other =
 pub line-at-spec : {M : Type 1} → statement M
 line-at-spec =
     tie.close
-    (tie.spec
-    (λ c. omega (arith, row c))
-    row
-    (λ c. omega (arith, fits c))
-    (λ c. omega (arith, fits c))
-    (λ c κs. fits c)
-    (λ c κs. search needs)
-    returns)
+    (tie.spec (λ c. omega (arith, row c)) row (λ c. omega (arith, fits c)) (λ c. omega (arith, fits c))
+    (λ c κs. fits c) (λ c κs. search needs) returns)

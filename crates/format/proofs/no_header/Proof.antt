@@ -4,10 +4,6 @@ use Rattle.format.specs.Answer.{noHeader}
 use Rattle.format.proofs.no_header.Statement.{statement}
 use Rattle.format.proofs.no_header.Tie as tie
 
-returns : tie.Need-returns
-unfolding noHeader
-returns c =
-    refl
-
 pub no-header-spec : {M : Type 1} → statement M
-no-header-spec = tie.close (tie.spec returns)
+unfolding noHeader
+no-header-spec = tie.close (tie.spec (λ c. refl))

@@ -55,16 +55,7 @@ returns-3 c =
 pub read-spec : {M : Type 1} → statement M
 read-spec =
     tie.close
-    (tie.spec
-    (λ c. search needs)
-    (λ c κs. search needs)
-    (λ c κs. search needs)
-    returns
-    (λ c. omega (arith, fits (c .before)))
-    (λ c. omega (arith, fits (c .before .before)))
-    (λ c. omega (arith, fits (c .before .before .before)))
-    (λ c κs. search needs)
-    (λ c κs. search needs)
-    returns-2
-    read-threads-requires
-    returns-3)
+    (tie.spec (λ c. search needs) (λ c κs. search needs) (λ c κs. search needs) returns
+    (λ c. omega (arith, fits (c .before))) (λ c. omega (arith, fits (c .before .before)))
+    (λ c. omega (arith, fits (c .before .before .before))) (λ c κs. search needs) (λ c κs. search needs) returns-2
+    read-threads-requires returns-3)

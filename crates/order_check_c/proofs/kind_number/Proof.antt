@@ -25,4 +25,5 @@ returns-3 c = rw (c .enum-told3 .given .1)
 
 pub kind-number-spec : {M : Type 1} → statement M
 kind-number-spec =
-    tie.close (tie.spec (λ c. search needs) (λ c. search needs) (λ c. search needs) returns returns-2 returns-3)
+    tie.close
+    (tie.spec (λ c. search needs) (λ c. search needs) (λ c. search needs) returns returns-2 returns-3)

@@ -88,18 +88,6 @@ returns-4 c =
 pub order-line-spec : {M : Type 1} → statement M
 order-line-spec =
     tie.close
-    (tie.spec
-    (λ c κs. search needs)
-    (λ c. search needs)
-    (λ c κs. search needs)
-    (λ c. search needs)
-    (λ c κs. search needs)
-    returns
-    (λ c. omega (arith, in-row c))
-    (λ c. omega (arith, in-row c))
-    (λ c κs. search needs)
-    returns-2
-    line-at-requires
-    (λ c κs. search needs)
-    returns-3
-    returns-4)
+    (tie.spec (λ c κs. search needs) (λ c. search needs) (λ c κs. search needs) (λ c. search needs)
+    (λ c κs. search needs) returns (λ c. omega (arith, in-row c)) (λ c. omega (arith, in-row c))
+    (λ c κs. search needs) returns-2 line-at-requires (λ c κs. search needs) returns-3 returns-4)

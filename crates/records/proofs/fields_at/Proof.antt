@@ -5,23 +5,10 @@ use borrow.Author.Needs.{needs}
 use Rattle.records.proofs.fields_at.Statement.{statement}
 use Rattle.records.proofs.fields_at.Tie as tie
 
-returns : tie.Need-returns
-unfolding fieldsOf
-returns c =
-    simp getD-drop
-
 pub fields-at-spec : {M : Type 1} → statement M
+unfolding fieldsOf
 fields-at-spec =
     tie.close
-    (tie.spec
-    (λ c. search needs)
-    (λ c. search needs)
-    (λ c. search needs)
-    (λ c. search needs)
-    (λ c. search needs)
-    (λ c. search needs)
-    (λ c. search needs)
-    (λ c. search needs)
-    (λ c. search needs)
-    (λ c. search needs)
-    returns)
+    (tie.spec (λ c. search needs) (λ c. search needs) (λ c. search needs) (λ c. search needs) (λ c. search needs)
+    (λ c. search needs) (λ c. search needs) (λ c. search needs) (λ c. search needs) (λ c. search needs)
+    (λ c. simp getD-drop))

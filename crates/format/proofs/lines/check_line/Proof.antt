@@ -19,10 +19,6 @@ stands : (c : tie.Else1)
     isRecord markIN sizeIN (drop (a .at) (now (a .bytes))) ≡ true
 stands c = sym (c .before .is-record .ensures) ∙ not-false _ (c .if1 .left)
 
-returns : tie.Need-returns
-unfolding readLine check checkOf
-returns c = rw (sym (c .before .is-record .ensures) ∙ not-true _ (c .if1 .taken))
-
 fields-at-requires : tie.Need-fields-at-requires
 fields-at-requires c κs =
     let s = c .before .before .before .before in
@@ -38,12 +34,9 @@ returns-2 c =
     ∙ sym (line-checked (a .l) (a .k) (a .n) (drop (a .at) (now (a .bytes))) (stands there))
 
 pub check-line-spec : {M : Type 1} → statement M
+unfolding readLine check checkOf
 check-line-spec =
     tie.close
-    (tie.spec
-    (λ c. search needs)
-    (λ c κs. search needs)
-    returns
-    fields-at-requires
-    (λ c κs. search needs)
-    returns-2)
+    (tie.spec (λ c. search needs) (λ c κs. search needs)
+    (λ c. rw (sym (c .before .is-record .ensures) ∙ not-true _ (c .if1 .taken)))
+    fields-at-requires (λ c κs. search needs) returns-2)

@@ -25,31 +25,15 @@ passes c =
     turn-passes (checked .before .before .loop .inv) (checked .before .loop-test .taken)
     (sym (checked .check-line .ensures) ∙ c .enum-told .given .1)
 
-loop-holds : tie.Need-loop-holds Inv-loop μ-loop
-loop-holds c = record { inside = search needs; comes-to = refl }
-
 returns : tie.Need-returns Inv-loop μ-loop
 returns c =
     let checked = c .before .before .before in
     turn-fails (checked .before .before .loop .inv) (checked .before .loop-test .taken)
     (sym (checked .check-line .ensures) ∙ c .before .line .given .1)
 
-returns-2 : tie.Need-returns-2 Inv-loop μ-loop
-returns-2 c = lines-end (c .before .loop .inv) (c .loop-test .left)
-
 pub check-lines-spec : {M : Type 1} → statement M
 check-lines-spec =
     tie.close
-    (tie.spec
-    Inv-loop
-    μ-loop
-    loop-holds
-    (λ c κs. search needs)
-    (λ c. search needs)
-    returns
-    (λ c. search needs)
-    (λ c. omega (arith, passes c .inside))
-    (λ c. search needs)
-    (λ c. search needs)
-    passes
-    returns-2)
+    (tie.spec Inv-loop μ-loop (λ c. record { inside = search needs; comes-to = refl }) (λ c κs. search needs)
+    (λ c. search needs) returns (λ c. search needs) (λ c. omega (arith, passes c .inside)) (λ c. search needs)
+    (λ c. search needs) passes (λ c. lines-end (c .before .loop .inv) (c .loop-test .left)))

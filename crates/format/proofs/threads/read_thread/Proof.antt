@@ -63,17 +63,6 @@ returns-4 c =
 pub read-thread-spec : {M : Type 1} → statement M
 read-thread-spec =
     tie.close
-    (tie.spec
-    (λ c. search needs)
-    (λ c κs. search needs)
-    returns
-    (λ c. omega (arith, fits c))
-    (λ c. omega (arith, fits (c .before)))
-    cast-if2
-    returns-2
-    (λ c. omega (arith, fits (c .before .before)))
-    (λ c κs. omega (arith, fits (c .before .before)))
-    (λ c. search needs)
-    (λ c. search needs)
-    returns-3
-    returns-4)
+    (tie.spec (λ c. search needs) (λ c κs. search needs) returns (λ c. omega (arith, fits c))
+    (λ c. omega (arith, fits (c .before))) cast-if2 returns-2 (λ c. omega (arith, fits (c .before .before)))
+    (λ c κs. omega (arith, fits (c .before .before))) (λ c. search needs) (λ c. search needs) returns-3 returns-4)

@@ -53,28 +53,8 @@ returns-3 c = input-ends (c .before .before .loop .inv) (c .before .loop-test .l
 pub read-threads-spec : {M : Type 1} → statement M
 read-threads-spec =
     tie.close
-    (tie.spec
-    Inv-loop
-    μ-loop
-    (λ c κs. search needs)
-    loop-holds
-    (λ c κs. search needs)
-    (λ c. search needs)
-    (λ c κs. search needs)
-    returns
-    (λ c. search needs)
-    (λ c. search needs)
-    (λ c. omega (arith, passes c .inside))
-    (λ c. omega arith)
-    (λ c. omega arith)
-    (λ c. search needs)
-    (λ c. search needs)
-    (λ c. omega (arith, passes c .inside))
-    (λ c. search needs)
-    (λ c. omega (arith, passes c .inside))
-    (λ c. search needs)
-    (λ c. search needs)
-    passes
-    (λ c κs. search needs)
-    returns-2
-    returns-3)
+    (tie.spec Inv-loop μ-loop (λ c κs. search needs) loop-holds (λ c κs. search needs) (λ c. search needs)
+    (λ c κs. search needs) returns (λ c. search needs) (λ c. search needs) (λ c. omega (arith, passes c .inside))
+    (λ c. omega arith) (λ c. omega arith) (λ c. search needs) (λ c. search needs)
+    (λ c. omega (arith, passes c .inside)) (λ c. search needs) (λ c. omega (arith, passes c .inside))
+    (λ c. search needs) (λ c. search needs) passes (λ c κs. search needs) returns-2 returns-3)

@@ -19,9 +19,6 @@ Inv-loop out₀ at trace steps next₀ i₀ out next i =
 abbrev μ-loop : tie.MeasureT-loop
 μ-loop out₀ at trace steps next₀ i₀ out next i = steps - i
 
-loop-holds : tie.Need-loop-holds Inv-loop μ-loop
-loop-holds c = (search needs, no-steps-put _)
-
 loop-again : tie.Need-loop-again Inv-loop μ-loop
 loop-again c =
     let put = c .before .before .put-step .ensures in
@@ -30,17 +27,11 @@ loop-again c =
     let a = turn .before .before .before .before .before .args in
     (search needs, step-put (now (a .trace)) (l .inv .1) (ltb-true _ _ (turn .if1 .taken)) put)
 
-same-length : tie.Need-same-length Inv-loop μ-loop
-same-length c = put-same-length (c .before .before .loop .inv .1)
-
 returns : tie.Need-returns Inv-loop μ-loop
 returns c =
     let l = c .before .before .loop in
     let a = c .before .before .before .before .before .args in
     steps-put (now (a .trace)) (l .inv .1) (ltb-false _ _ (c .if1 .left)) (search needs)
-
-same-length-2 : tie.Need-same-length-2 Inv-loop μ-loop
-same-length-2 c = put-same-length (c .before .loop .inv .1)
 
 returns-2 : tie.Need-returns-2 Inv-loop μ-loop
 returns-2 c =
@@ -52,16 +43,6 @@ returns-2 c =
 pub put-steps-spec : {M : Type 1} → statement M
 put-steps-spec =
     tie.close
-    (tie.spec
-    Inv-loop
-    μ-loop
-    loop-holds
-    (λ c. search needs)
-    (λ c κs. search needs)
-    (λ c. search needs)
-    (λ c. search needs)
-    loop-again
-    same-length
-    returns
-    same-length-2
-    returns-2)
+    (tie.spec Inv-loop μ-loop (λ c. (search needs, no-steps-put _)) (λ c. search needs) (λ c κs. search needs)
+    (λ c. search needs) (λ c. search needs) loop-again (λ c. put-same-length (c .before .before .loop .inv .1))
+    returns (λ c. put-same-length (c .before .loop .inv .1)) returns-2)

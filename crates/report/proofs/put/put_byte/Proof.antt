@@ -4,8 +4,8 @@ use borrow.Author.Needs.{needs}
 use Rattle.report.proofs.put.put_byte.Statement.{statement}
 use Rattle.report.proofs.put.put_byte.Tie as tie
 
-returns-2 : tie.Need-returns-2
-returns-2 c = put-past _ _ _ (c .if1 .left)
-
 pub put-byte-spec : {M : Type 1} → statement M
-put-byte-spec = tie.close (tie.spec (λ c. search needs) (λ c. search needs) (λ c. search needs) (λ c. search needs) returns-2)
+put-byte-spec =
+    tie.close
+    (tie.spec (λ c. search needs) (λ c. search needs) (λ c. search needs) (λ c. search needs)
+    (λ c. put-past _ _ _ (c .if1 .left)))

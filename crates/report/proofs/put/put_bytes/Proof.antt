@@ -14,9 +14,6 @@ Inv-loop out₀ at bytes next₀ i₀ out next i =
 abbrev μ-loop : tie.MeasureT-loop
 μ-loop out₀ at bytes next₀ i₀ out next i = length bytes - i
 
-loop-holds : tie.Need-loop-holds Inv-loop μ-loop
-loop-holds c = (search needs, put-nothing _ _)
-
 loop-again : tie.Need-loop-again Inv-loop μ-loop
 loop-again c =
     let put = c .before .before .put-byte .ensures in
@@ -24,23 +21,9 @@ loop-again c =
     let l = turn .before .loop in
     (search needs, put-one-more _ (l .i) (l .inv .1) (turn .loop-test .taken) put)
 
-same-length : tie.Need-same-length Inv-loop μ-loop
-same-length c = put-same-length (c .before .loop .inv .1)
-
-returns : tie.Need-returns Inv-loop μ-loop
-returns c = put-all _ (c .before .loop .inv .1) (c .loop-test .left)
-
 pub put-bytes-spec : {M : Type 1} → statement M
 put-bytes-spec =
     tie.close
-    (tie.spec
-    Inv-loop
-    μ-loop
-    loop-holds
-    (λ c. search needs)
-    (λ c κs. search needs)
-    (λ c. search needs)
-    (λ c. search needs)
-    loop-again
-    same-length
-    returns)
+    (tie.spec Inv-loop μ-loop (λ c. (search needs, put-nothing _ _)) (λ c. search needs) (λ c κs. search needs)
+    (λ c. search needs) (λ c. search needs) loop-again (λ c. put-same-length (c .before .loop .inv .1))
+    (λ c. put-all _ (c .before .loop .inv .1) (c .loop-test .left)))
