@@ -4,3 +4,4 @@ pub mod AllLaws
 pub mod ValidLaws
 pub mod Bounds
 pub mod LargerLimits
+pub mod Located
