@@ -17,8 +17,8 @@ use Rattle.checker.proofs.LongTrace.{never-short}
 use Rattle.order_check.specs.Printed.{Sizes, Printed, PrintedFor}
 
 -- A text that fits is laid whole.
-module _ (text buffer : List ℕ) {after : List ℕ} {count : ℕ} (fits : length text ≤ length buffer) (is : after ≡ laid text buffer)
-    (counted : count ≡ min (length text) (length buffer)) where
+module _ (text buffer : List ℕ) {after : List ℕ} {count : ℕ} (fits : length text ≤ length buffer)
+    (is : after ≡ laid text buffer) (counted : count ≡ min (length text) (length buffer)) where
   all-counted : count ≡ length text
   all-counted = omega (arith, counted)
 

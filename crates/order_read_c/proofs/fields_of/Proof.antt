@@ -18,13 +18,42 @@ fields-of-spec =
     (λ c κs. search needs) (λ c. search needs) (λ c κs. search needs) (λ c κs. search needs) (λ c κs. search needs)
     (λ c. search needs) (λ c κs. search needs) (λ c κs. search needs) (λ c. search needs) (λ c κs. search needs)
     (λ c κs. search needs) (λ c κs. search needs)
-    (λ c. let b = c .before in c .make-line .ensures ∙ rw (b .before .before .before .line .given .1, b .before .operand-of .ensures, b .operand-of2 .ensures))
-    (λ c. let b = c .before in c .make-line2 .ensures ∙ rw (b .before .before .before .line2 .given .1, b .before .operand-of3 .ensures, b .operand-of4 .ensures))
-    (λ c. let b = c .before in c .make-line3 .ensures ∙ rw (b .before .before .before .line3 .given .1, b .before .operand-of5 .ensures, b .operand-of6 .ensures))
-    (λ c. let b = c .before .before in c .make-line4 .ensures ∙ rw (b .before .line4 .given .1, c .before .operand-of7 .ensures, b .before .before .before .no-operand .ensures))
-    (λ c. let b = c .before .before in c .make-line5 .ensures ∙ rw (b .before .line5 .given .1, c .before .operand-of8 .ensures, b .before .before .before .no-operand .ensures))
-    (λ c. let b = c .before in c .make-line6 .ensures ∙ rw (b .before .line6 .given .1, b .before .before .before .no-operand .ensures))
-    (λ c. let b = c .before .before in c .make-line7 .ensures ∙ rw (b .before .line7 .given .1, c .before .operand-of9 .ensures, b .before .before .before .no-operand .ensures))
-    (λ c. let b = c .before in c .make-line8 .ensures ∙ rw (b .before .before .before .line8 .given .1, b .before .operand-of10 .ensures, b .operand-of11 .ensures))
-    (λ c. let b = c .before .before in c .make-line9 .ensures ∙ rw (b .before .line9 .given .1, c .before .operand-of12 .ensures, b .before .before .before .no-operand .ensures))
-    (λ c. let b = c .before in c .make-line10 .ensures ∙ rw (b .before .before .before .line10 .given .1, b .before .operand-of13 .ensures, b .operand-of14 .ensures)))
+    (λ c.
+    let b = c .before in
+    c .make-line .ensures ∙ rw
+    (b .before .before .before .line .given .1, b .before .operand-of .ensures, b .operand-of2 .ensures))
+    (λ c.
+    let b = c .before in
+    c .make-line2 .ensures ∙ rw
+    (b .before .before .before .line2 .given .1, b .before .operand-of3 .ensures, b .operand-of4 .ensures))
+    (λ c.
+    let b = c .before in
+    c .make-line3 .ensures ∙ rw
+    (b .before .before .before .line3 .given .1, b .before .operand-of5 .ensures, b .operand-of6 .ensures))
+    (λ c.
+    let b = c .before .before in
+    c .make-line4 .ensures ∙ rw
+    (b .before .line4 .given .1, c .before .operand-of7 .ensures, b .before .before .before .no-operand .ensures))
+    (λ c.
+    let b = c .before .before in
+    c .make-line5 .ensures ∙ rw
+    (b .before .line5 .given .1, c .before .operand-of8 .ensures, b .before .before .before .no-operand .ensures))
+    (λ c.
+    let b = c .before in
+    c .make-line6 .ensures ∙ rw (b .before .line6 .given .1, b .before .before .before .no-operand .ensures))
+    (λ c.
+    let b = c .before .before in
+    c .make-line7 .ensures ∙ rw
+    (b .before .line7 .given .1, c .before .operand-of9 .ensures, b .before .before .before .no-operand .ensures))
+    (λ c.
+    let b = c .before in
+    c .make-line8 .ensures ∙ rw
+    (b .before .before .before .line8 .given .1, b .before .operand-of10 .ensures, b .operand-of11 .ensures))
+    (λ c.
+    let b = c .before .before in
+    c .make-line9 .ensures ∙ rw
+    (b .before .line9 .given .1, c .before .operand-of12 .ensures, b .before .before .before .no-operand .ensures))
+    (λ c.
+    let b = c .before in
+    c .make-line10 .ensures ∙ rw
+    (b .before .before .before .line10 .given .1, b .before .operand-of13 .ensures, b .operand-of14 .ensures)))
