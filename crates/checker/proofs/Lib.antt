@@ -1,5 +1,3 @@
-pub mod Answers
-pub mod Promises
 pub mod Clauses
 pub mod Searched
 pub mod Ways
@@ -7,4 +5,3 @@ pub mod Tracing
 pub mod Endings
 pub mod IndexKept
 pub mod Judging
-pub mod LongTrace

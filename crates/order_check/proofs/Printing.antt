@@ -10,10 +10,10 @@ use Rattle.program.specs.Program.{Program}
 use Rattle.program_bytes.specs.Outcome.{Outcome}
 use Rattle.program_bytes.specs.Format.{readProgram}
 use Rattle.program_bytes.proofs.Longer.{longer-judged-by-front}
-use Rattle.report.specs.declared.Report.{Report}
+use Rattle.verdicts.specs.declared.Report.{Report}
 use Rattle.report.specs.Text.{textOf, longestText, laid}
-use Rattle.checker.specs.Checked.{Checked}
-use Rattle.checker.proofs.LongTrace.{never-short}
+use Rattle.verdicts.specs.Checked.{Checked}
+use Rattle.verdicts.proofs.LongTrace.{never-short}
 use Rattle.order_check.specs.Printed.{Sizes, Printed, PrintedFor}
 
 -- A text that fits is laid whole.

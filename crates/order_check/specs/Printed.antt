@@ -5,10 +5,10 @@ use mathlib.Core.List.{List}
 use lib.ListN.{length, take}
 use Rattle.limits.specs.Limits.{maxThreads, maxLines}
 use Rattle.program_bytes.specs.Format.{readProgram, sizePR, sizeTH, sizeIN}
-use Rattle.report.specs.declared.Report.{Report}
-use Rattle.report.specs.declared.Report.the-variants.{Short}
+use Rattle.verdicts.specs.declared.Report.{Report}
+use Rattle.verdicts.specs.declared.Report.the-variants.{Short}
 use Rattle.report.specs.Text.{textOf, longestText}
-use Rattle.checker.specs.Checked.{Checked}
+use Rattle.verdicts.specs.Checked.{Checked}
 
 -- The bytes of the longest program: a header, and as many threads and lines as there can be.
 abbrev pub longestProgram : ℕ

@@ -4,8 +4,8 @@ use native.Mathlib.Numerals.{add-one}
 use mathlib.Core.Path.{_≡_, ap, ap₂, sym, _∙_}
 use mathlib.Core.List.{List}
 use Rattle.rules.specs.declared.Ending.{Ending}
-use Rattle.report.specs.declared.Report.{Report}
-use Rattle.report.specs.declared.Report.the-variants.{Ended}
+use Rattle.verdicts.specs.declared.Report.{Report}
+use Rattle.verdicts.specs.declared.Report.the-variants.{Ended}
 use Rattle.order_check_c.specs.Answer.{kindNumber, eight, endingNumbers, numbersOf}
 
 pub witness-numbers : (count steps : ℕ) (e : Ending) {number : ℕ} → number ≡ kindNumber (e .kind)

@@ -8,10 +8,10 @@ use Rattle.program.specs.declared.Kind.the-variants.{Read, Write, Update}
 use Rattle.program_bytes.specs.Outcome.{Outcome}
 use Rattle.rules.specs.declared.Ending.{Ending}
 use Rattle.rules.specs.ThreadNumber.{threadNumber}
-use Rattle.report.specs.Number.{checkNumber}
-use Rattle.report.specs.declared.Report.{Report}
-use Rattle.report.specs.declared.Report.the-variants.{Robust, Ended, Full, Short, Refused}
-use Rattle.checker.specs.Checked.{Checked}
+use Rattle.verdicts.specs.Number.{checkNumber}
+use Rattle.verdicts.specs.declared.Report.{Report}
+use Rattle.verdicts.specs.declared.Report.the-variants.{Robust, Ended, Full, Short, Refused}
+use Rattle.verdicts.specs.Checked.{Checked}
 
 -- The number of a kind: 1 R, 2 W, 3 M.
 unfoldable pub kindNumber : Kind → ℕ

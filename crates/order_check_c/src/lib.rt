@@ -2,8 +2,8 @@
 use checker::check;
 use checker::check_indexed;
 use program::Kind;
-use report::Report;
 use rules::Ending;
+use verdicts::Report;
 ghost use mathlib.Core.Path.{_≡_};
 ghost use lib.ListN.{length};
 ghost use Rattle.program_bytes.specs.Format.{readProgram};

@@ -8,9 +8,9 @@ use mathlib.Core.List.{List, [], _∷_}
 use lib.Dec.{eqb}
 use Rattle.program.specs.declared.Kind.{Kind}
 use Rattle.program.specs.declared.Kind.the-variants.{Read, Write, Update}
-use Rattle.report.specs.declared.Report.{Report}
-use Rattle.report.specs.declared.Report.the-variants.{Robust, Ended, Full, Short, Refused}
-use Rattle.report.specs.Number.{checkNumber}
+use Rattle.verdicts.specs.declared.Report.{Report}
+use Rattle.verdicts.specs.declared.Report.the-variants.{Robust, Ended, Full, Short, Refused}
+use Rattle.verdicts.specs.Number.{checkNumber}
 use Rattle.report.specs.Text.{decimalIn, decimal, line, letter, stepLines, endingLine, textOf}
 
 -- A report, the trace that it comes with, and what is printed.

@@ -6,7 +6,7 @@ use mathlib.Core.List.{List}
 use lib.ListN.{length}
 use Rattle.report.specs.Put.{Put}
 use Rattle.report.specs.Text.{textOf, longestText, laid}
-use Rattle.report.specs.declared.Report.{Report}
+use Rattle.verdicts.specs.declared.Report.{Report}
 use Rattle.report.proofs.Puts.{put-as, put-from-start}
 
 pub printed : (report it : Report) (trace : List ℕ) {d e : List ℕ} {next : ℕ} → report ≡ it

@@ -8,9 +8,9 @@ use Rattle.program.specs.declared.Kind.{Kind}
 use Rattle.program.specs.declared.Kind.the-variants.{Read, Write, Update}
 use Rattle.rules.specs.declared.Ending.{Ending}
 use Rattle.rules.specs.ThreadNumber.{threadNumber}
-use Rattle.report.specs.Number.{checkNumber}
-use Rattle.report.specs.declared.Report.{Report}
-use Rattle.report.specs.declared.Report.the-variants.{Robust, Ended, Full, Short, Refused}
+use Rattle.verdicts.specs.Number.{checkNumber}
+use Rattle.verdicts.specs.declared.Report.{Report}
+use Rattle.verdicts.specs.declared.Report.the-variants.{Robust, Ended, Full, Short, Refused}
 
 -- The digits 0 to 9.
 abbrev pub digit : ℕ → ℕ

@@ -6,35 +6,11 @@ mod put;
 use crate::lines::put_ending;
 use crate::lines::put_line;
 use crate::lines::put_steps;
-use rules::Ending;
+use verdicts::Report;
 ghost use mathlib.Core.Path.{_≡_};
 ghost use Prim.Native.Nat.{_≤_, min};
 ghost use lib.ListN.{length};
 ghost use Rattle.report.specs.Text.{textOf, longestText, laid};
-
-// What the checker has to say of a program. The thread of an ending is numbered from 0; what is printed counts from 1.
-pub enum Report {
-    Robust {
-        count: usize,
-    },
-    // So many steps lead to what ended the search. An ending by a witness is NR.
-    Ended {
-        count: usize,
-        steps: usize,
-        ending: Ending,
-    },
-    Full {
-        count: usize,
-    },
-    // Check 10: the trace is too short, and so long a one is wanted.
-    Short {
-        wanted: usize,
-    },
-    // The number of the check that failed.
-    Refused {
-        number: u8,
-    },
-}
 
 // Lays the text of a report, with the trace of its steps, in a lent buffer, as far as that reaches, and gives how many
 // bytes were written.

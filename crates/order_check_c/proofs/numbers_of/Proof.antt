@@ -1,5 +1,5 @@
 -- `order_check_c::numbers_of` meets its contract: each report has its numbers.
-use Rattle.report.specs.Number.{checkNumber}
+use Rattle.verdicts.specs.Number.{checkNumber}
 use Rattle.order_check_c.specs.Answer.{numbersOf}
 use Rattle.order_check_c.proofs.Numbers.{ending-numbers}
 use borrow.Author.Needs.{needs}

@@ -1,5 +1,5 @@
 -- `report::text` meets its contract: each way prints the lines of its report from the start of the buffer.
-use Rattle.report.specs.Number.{checkNumber}
+use Rattle.verdicts.specs.Number.{checkNumber}
 use mathlib.Core.Path.{refl}
 use Prim.Native.Nat.{ℕ}
 use lib.ListN.{length}

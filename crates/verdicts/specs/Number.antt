@@ -1,7 +1,7 @@
 -- Document 01's number of each report.
 use Prim.Native.Nat.{ℕ}
-use Rattle.report.specs.declared.Report.{Report}
-use Rattle.report.specs.declared.Report.the-variants.{Robust, Ended, Full, Short, Refused}
+use Rattle.verdicts.specs.declared.Report.{Report}
+use Rattle.verdicts.specs.declared.Report.the-variants.{Robust, Ended, Full, Short, Refused}
 
 -- The number of the check that failed, 0 where none did: "10, with a wanted length", "11, printed as FU".
 unfoldable pub checkNumber : Report → ℕ

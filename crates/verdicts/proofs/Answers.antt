@@ -1,10 +1,10 @@
 -- A report that gives an answer has its number.
 use Prim.Native.Nat.{ℕ}
 use mathlib.Core.Path.{_≡_, refl, ap, _∙_}
 use Rattle.verdicts.specs.Answer.{Answer, robust, ended, placesFull, traceShort, turnedDown, numberOf}
-use Rattle.report.specs.Number.{checkNumber}
-use Rattle.report.specs.declared.Report.{Report}
-use Rattle.checker.specs.Report.{reportOf, Allowed, Answered}
+use Rattle.verdicts.specs.Number.{checkNumber}
+use Rattle.verdicts.specs.declared.Report.{Report}
+use Rattle.verdicts.specs.Report.{reportOf, Allowed, Answered}
 
 numbered : (wanted : ℕ) (a : Answer) → checkNumber (reportOf wanted a) ≡ numberOf a
 unfolding reportOf numberOf checkNumber
