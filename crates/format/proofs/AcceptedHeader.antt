@@ -6,15 +6,15 @@ use mathlib.Core.List.{List, [], map}
 use lib.ListN.{length, getD, replicate, length-map, List·getD-map}
 use Rattle.limits.specs.Limits.{maxThreads}
 use Rattle.program.specs.Program.{Line, Program, linesOf}
-use Rattle.program_bytes.specs.Outcome.{Outcome}
-use Rattle.program_bytes.specs.Outcome.Outcome.{refused, accepted}
+use Rattle.program.specs.Outcome.{Outcome}
+use Rattle.program.specs.Outcome.Outcome.{refused, accepted}
 use Rattle.program.specs.Within.{Within}
-use Rattle.program_bytes.specs.Format.{readProgram, programIn, programOf}
+use Rattle.program.specs.Format.{readProgram, programIn, programOf}
 use Rattle.format.specs.Answer.{Accepted, reading, headerOf}
 use Rattle.format.specs.declared.Check.the-variants.{Passed, Failed}
 use Rattle.format.specs.declared.Header.{Header}
 use Rattle.format.specs.declared.Reading.{Reading}
-use Rattle.program_bytes.proofs.RoundTrip.{accepted-is-spelling}
+use Rattle.program.proofs.RoundTrip.{accepted-is-spelling}
 use Rattle.format.proofs.AcceptedLines.{front-of-row}
 
 outcome-passed : (o : Outcome Program) → reading o .check ≡ Passed

@@ -10,17 +10,17 @@ use Rattle.limits.specs.Limits.{maxThreads}
 use Rattle.program.specs.Program.{Line, Program, linesOf}
 use Rattle.program.specs.Program.Operand.{constant}
 use Rattle.program.specs.Program.Line.{wait}
-use Rattle.program_bytes.specs.Outcome.Outcome.{accepted}
-use Rattle.program_bytes.specs.Ops.{opAt}
-use Rattle.program_bytes.specs.Format.{sizePR, sizeIN, operand, readProgram, programOf}
-use Rattle.program_bytes.specs.Layout.{startsFrom, startOf}
+use Rattle.program.specs.Outcome.Outcome.{accepted}
+use Rattle.program.specs.Ops.{opAt}
+use Rattle.program.specs.Format.{sizePR, sizeIN, operand, readProgram, programOf}
+use Rattle.program.specs.Layout.{startsFrom, startOf}
 use Rattle.format.specs.Answer.{Accepted, headerOf}
 use Rattle.records.specs.Fields.{fieldsOf}
 use Rattle.format.specs.declared.Header.{Header}
 use Rattle.records.specs.declared.Fields.{Fields}
-use Rattle.program_bytes.proofs.RoundTrip.{accepted-is-spelling}
-use Rattle.program_bytes.proofs.Places.{LineStands, line-stands}
-use Rattle.program_bytes.proofs.StartLaws.{length-startsFrom}
+use Rattle.program.proofs.RoundTrip.{accepted-is-spelling}
+use Rattle.program.proofs.Places.{LineStands, line-stands}
+use Rattle.program.proofs.StartLaws.{length-startsFrom}
 
 -- What fills the front of a row of zeros is read there.
 pub front-of-row : (width : ℕ) (l : List ℕ) (t : ℕ) → t < length l → length l ≤ width → getD (sets

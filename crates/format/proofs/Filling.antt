@@ -10,18 +10,18 @@ use lib.Seq.{sets, drop-drop}
 use lib.Dec.{eqb}
 use borrow.Author.Tests.{eq-eqb, ne-eqb}
 use Rattle.program.specs.Program.{Line, Program}
-use Rattle.program_bytes.specs.Outcome.{Outcome, check, andThen}
-use Rattle.program_bytes.specs.Outcome.Outcome.{refused, accepted}
-use Rattle.program_bytes.specs.Format.{sizePR, sizeTH, sizeIN, readThread, readThreads, endsAfter}
-use Rattle.program_bytes.specs.Layout.{startsFrom, threadSize}
+use Rattle.program.specs.Outcome.{Outcome, check, andThen}
+use Rattle.program.specs.Outcome.Outcome.{refused, accepted}
+use Rattle.program.specs.Format.{sizePR, sizeTH, sizeIN, readThread, readThreads, endsAfter}
+use Rattle.program.specs.Layout.{startsFrom, threadSize}
 use Rattle.format.specs.Answer.{noHeader, refusal, reading, headerOf}
 use Rattle.format.specs.Inner.{threadOf}
 use Rattle.format.specs.declared.Check.the-variants.{Passed}
 use Rattle.format.specs.declared.Header.{Header}
 use Rattle.format.specs.declared.Reading.{Reading}
 use Rattle.format.specs.declared.threads.Thread.the-variants.{Lines, Faulty}
-use Rattle.program_bytes.proofs.OutcomeLaws.{andThen-goes-on, andThen-stops}
-use Rattle.program_bytes.proofs.AcceptedThreads.{thread-read, threads-read}
+use Rattle.program.proofs.OutcomeLaws.{andThen-goes-on, andThen-stops}
+use Rattle.program.proofs.AcceptedThreads.{thread-read, threads-read}
 
 -- A header with thread i's lines filled in.
 abbrev pub withThread : Header → (i start count : ℕ) → Header

@@ -9,19 +9,19 @@ use borrow.Author.Tests.{le-leb}
 use Rattle.limits.specs.Limits.{maxLines}
 use lib.Seq.{drop-drop, getD-drop}
 use Rattle.program.specs.Program.{Line}
-use Rattle.program_bytes.specs.Outcome.{Outcome, check, andThen}
-use Rattle.program_bytes.specs.Outcome.Outcome.{refused, accepted}
-use Rattle.program_bytes.specs.Format.{isRecord, markIN, markTH, sizeIN, sizeTH, fieldsToLine}
-use Rattle.program_bytes.specs.Format.{readLine, readLines, readThread}
+use Rattle.program.specs.Outcome.{Outcome, check, andThen}
+use Rattle.program.specs.Outcome.Outcome.{refused, accepted}
+use Rattle.program.specs.Format.{isRecord, markIN, markTH, sizeIN, sizeTH, fieldsToLine}
+use Rattle.program.specs.Format.{readLine, readLines, readThread}
 use Rattle.records.specs.Fields.{fieldsOf}
 use Rattle.format.specs.Inner.{checkOf, threadOf}
 use Rattle.format.specs.declared.Check.{Check}
 use Rattle.format.specs.declared.Check.the-variants.{Passed, Failed}
 use Rattle.format.specs.declared.threads.Thread.the-variants.{Lines, Faulty}
-use Rattle.program_bytes.proofs.AcceptedThreads.{lines-read}
-use Rattle.program_bytes.proofs.OutcomeLaws.{andThen-goes-on, andThen-stops}
-use Rattle.program_bytes.proofs.RecordLaws.{record-stands}
-use Rattle.program_bytes.proofs.AcceptedLine.{line-read}
+use Rattle.program.proofs.AcceptedThreads.{lines-read}
+use Rattle.program.proofs.OutcomeLaws.{andThen-goes-on, andThen-stops}
+use Rattle.program.proofs.RecordLaws.{record-stands}
+use Rattle.program.proofs.AcceptedLine.{line-read}
 
 module _ {A : Type 0} where
   -- The check of an outcome tells which it is.

@@ -8,10 +8,10 @@ use Rattle.limits.specs.Limits.{maxThreads}
 use Rattle.program.specs.Program.{Operand as ModelOperand, Line as ModelLine, Program}
 use Rattle.program.specs.Program.Operand.{constant, register}
 use Rattle.program.specs.Program.Line.{sum, equal, less, jump, write, read, fadd, cas, wait, bcas}
-use Rattle.program_bytes.specs.Outcome.{Outcome}
-use Rattle.program_bytes.specs.Outcome.Outcome.{refused, accepted}
-use Rattle.program_bytes.specs.Format.{sizePR, readProgram, programOf}
-use Rattle.program_bytes.specs.Layout.{startsFrom}
+use Rattle.program.specs.Outcome.{Outcome}
+use Rattle.program.specs.Outcome.Outcome.{refused, accepted}
+use Rattle.program.specs.Format.{sizePR, readProgram, programOf}
+use Rattle.program.specs.Layout.{startsFrom}
 use Rattle.format.specs.declared.Check.{Check}
 use Rattle.format.specs.declared.Check.the-variants.{Passed, Failed}
 use Rattle.format.specs.declared.Header.{Header}

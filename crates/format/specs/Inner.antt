@@ -3,8 +3,8 @@ use Prim.Native.Nat.{ℕ}
 use mathlib.Core.List.{List}
 use lib.ListN.{length}
 use Rattle.program.specs.Program.{Line}
-use Rattle.program_bytes.specs.Outcome.{Outcome}
-use Rattle.program_bytes.specs.Outcome.Outcome.{refused, accepted}
+use Rattle.program.specs.Outcome.{Outcome}
+use Rattle.program.specs.Outcome.Outcome.{refused, accepted}
 use Rattle.format.specs.declared.Check.{Check}
 use Rattle.format.specs.declared.Check.the-variants.{Passed, Failed}
 use Rattle.format.specs.declared.threads.Thread.{Thread}

@@ -1,5 +1,5 @@
 // The program bytes of document 01: the reader, and the line at a place of an accepted input.
-// The meaning is specs/Format.antt of the crate program_bytes; each contract is an equation with it.
+// The meaning is specs/Format.antt of the crate program; each contract is an equation with it.
 mod lines;
 mod threads;
 
@@ -11,7 +11,7 @@ ghost use mathlib.Core.Path.{_≡_};
 ghost use Prim.Native.Nat.{_<_};
 ghost use lib.ListN.{length, getD};
 ghost use Rattle.program.specs.Program.{Line as ModelLine, linesOf};
-ghost use Rattle.program_bytes.specs.Format.{areInRange, readProgram, programOf};
+ghost use Rattle.program.specs.Format.{areInRange, readProgram, programOf};
 ghost use Rattle.format.specs.Answer.{noHeader, refusal, reading, Accepted, lineMeans};
 
 // The bytes of each record.

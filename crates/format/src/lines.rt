@@ -15,8 +15,8 @@ use records::row_of;
 ghost use mathlib.Core.Path.{_≡_};
 ghost use Prim.Native.Nat.{_≤_};
 ghost use lib.ListN.{length, drop};
-ghost use Rattle.program_bytes.specs.Ops.{opAt};
-ghost use Rattle.program_bytes.specs.Format.{operand, fieldsToLine, readLine, readLines};
+ghost use Rattle.program.specs.Ops.{opAt};
+ghost use Rattle.program.specs.Format.{operand, fieldsToLine, readLine, readLines};
 ghost use Rattle.format.specs.Answer.{operandMeans, lineMeans};
 ghost use Rattle.format.specs.Inner.{checkOf};
 

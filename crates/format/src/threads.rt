@@ -12,8 +12,8 @@ ghost use mathlib.Core.Path.{_≡_};
 ghost use Prim.Native.Nat.{_≤_};
 ghost use lib.ListN.{length, drop};
 ghost use Rattle.limits.specs.Limits.{maxThreads};
-ghost use Rattle.program_bytes.specs.Outcome.{andThen};
-ghost use Rattle.program_bytes.specs.Format.{sizePR, readThread, readThreads, endsAfter};
+ghost use Rattle.program.specs.Outcome.{andThen};
+ghost use Rattle.program.specs.Format.{sizePR, readThread, readThreads, endsAfter};
 ghost use Rattle.format.specs.Answer.{reading};
 ghost use Rattle.format.specs.Inner.{threadOf};
 

@@ -7,9 +7,9 @@ use lib.ListN.{length, take, drop, length-append, length-take, length-drop}
 use lib.Seq.{length-take-le, take-at, take-all}
 use Rattle.io.specs.Counts.{Counts}
 use Rattle.program.specs.Program.{Program}
-use Rattle.program_bytes.specs.Outcome.{Outcome}
-use Rattle.program_bytes.specs.Format.{readProgram}
-use Rattle.program_bytes.proofs.Longer.{longer-judged-by-front}
+use Rattle.program.specs.Outcome.{Outcome}
+use Rattle.program.specs.Format.{readProgram}
+use Rattle.program.proofs.Longer.{longer-judged-by-front}
 use Rattle.verdicts.specs.declared.Report.{Report}
 use Rattle.report.specs.Text.{textOf, longestText, laid}
 use Rattle.verdicts.specs.Checked.{Checked}

@@ -4,7 +4,7 @@ use mathlib.Core.Path.{_≡_}
 use mathlib.Core.List.{List}
 use lib.ListN.{length, take}
 use Rattle.limits.specs.Limits.{maxThreads, maxLines}
-use Rattle.program_bytes.specs.Format.{readProgram, sizePR, sizeTH, sizeIN}
+use Rattle.program.specs.Format.{readProgram, sizePR, sizeTH, sizeIN}
 use Rattle.verdicts.specs.declared.Report.{Report}
 use Rattle.verdicts.specs.declared.Report.the-variants.{Short}
 use Rattle.report.specs.Text.{textOf, longestText}

@@ -5,7 +5,7 @@ use mathlib.Core.List.{List, [], _∷_}
 use Rattle.program.specs.Program.{Program}
 use Rattle.program.specs.declared.Kind.{Kind}
 use Rattle.program.specs.declared.Kind.the-variants.{Read, Write, Update}
-use Rattle.program_bytes.specs.Outcome.{Outcome}
+use Rattle.program.specs.Outcome.{Outcome}
 use Rattle.rules.specs.declared.Ending.{Ending}
 use Rattle.rules.specs.ThreadNumber.{threadNumber}
 use Rattle.verdicts.specs.Number.{checkNumber}

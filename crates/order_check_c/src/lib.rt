@@ -6,7 +6,7 @@ use rules::Ending;
 use verdicts::Report;
 ghost use mathlib.Core.Path.{_≡_};
 ghost use lib.ListN.{length};
-ghost use Rattle.program_bytes.specs.Format.{readProgram};
+ghost use Rattle.program.specs.Format.{readProgram};
 ghost use Rattle.checker.specs.Indexed.{indexAfter};
 ghost use Rattle.order_check_c.specs.Answer.{kindNumber, endingNumbers, numbersOf, Told};
 

@@ -8,9 +8,9 @@ use borrow.Author.Tests.{lt-ltb, le-ltb}
 use Rattle.program.specs.Program.{Program, linesOf}
 use Rattle.program.specs.Program.Operand.{constant}
 use Rattle.program.specs.Program.Line.{wait}
-use Rattle.program_bytes.specs.Outcome.{Outcome}
-use Rattle.program_bytes.specs.Outcome.Outcome.{refused, accepted}
-use Rattle.program_bytes.specs.Format.{readProgram, programOf}
+use Rattle.program.specs.Outcome.{Outcome}
+use Rattle.program.specs.Outcome.Outcome.{refused, accepted}
+use Rattle.program.specs.Format.{readProgram, programOf}
 use Rattle.format.specs.Answer.{Accepted, reading}
 use Rattle.format.specs.declared.Check.the-variants.{Passed, Failed}
 use Rattle.format.specs.declared.Header.{Header}

@@ -7,8 +7,8 @@ use lib.Dec.{ltb}
 use Rattle.program.specs.Program.{Operand, Line, Program, linesOf}
 use Rattle.program.specs.Program.Operand.{constant, register}
 use Rattle.program.specs.Program.Line.{sum, equal, less, jump, write, read, fadd, cas, wait, bcas}
-use Rattle.program_bytes.specs.Outcome.{Outcome}
-use Rattle.program_bytes.specs.Outcome.Outcome.{refused, accepted}
+use Rattle.program.specs.Outcome.{Outcome}
+use Rattle.program.specs.Outcome.Outcome.{refused, accepted}
 use Rattle.format.specs.Answer.{noHeader, headerOf}
 use Rattle.format.specs.declared.Check.{Check}
 use Rattle.format.specs.declared.Check.the-variants.{Passed, Failed}

@@ -3,7 +3,7 @@ use format::Check;
 use format::Line;
 use format::Operand;
 ghost use mathlib.Core.Path.{_≡_};
-ghost use Rattle.program_bytes.specs.Format.{readProgram};
+ghost use Rattle.program.specs.Format.{readProgram};
 ghost use Rattle.format.specs.Answer.{operandMeans, lineMeans};
 ghost use Rattle.order_read_c.specs.Answer.{numberOf, headerAnswer, noOperand, operandAnswer, makeLine};
 ghost use Rattle.order_read_c.specs.Answer.{noLine, lineFields, lineAnswer};

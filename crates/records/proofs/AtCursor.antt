@@ -9,7 +9,7 @@ use lib.ListN.{length, getD, drop, length-drop}
 use lib.Seq.{drop-cons}
 use lib.Dec.{leb, ltb, eqb}
 use borrow.Author.Tests.{lt-leb, le-leb}
-use Rattle.program_bytes.specs.Format.{startsWith, isRecord}
+use Rattle.program.specs.Format.{startsWith, isRecord}
 
 -- Two more elements stand at the front of a long enough rest.
 pub drop-two : (l : List ℕ) (at : ℕ) → at + 2 ≤ length l → drop at l ≡ getD l at 0 ∷ getD l (at + 1) 0 ∷ drop

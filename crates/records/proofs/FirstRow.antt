@@ -3,7 +3,7 @@ use Prim.Native.Nat.{ℕ, zero, suc, _-_}
 use native.Mathlib.Numerals.{sub-one}
 use mathlib.Core.Path.{_≡_, refl, ap}
 use lib.ListN.{getD}
-use Rattle.program_bytes.specs.Ops.{opTable, opAt, sumOp}
+use Rattle.program.specs.Ops.{opTable, opAt, sumOp}
 
 -- An op is none of the table's after the first, as a match on it leaves it.
 abbrev pub NoneLater : ℕ → Type 0

@@ -3,9 +3,9 @@ use mathlib.Core.Path.{_≡_, refl, ap, _∙_}
 use mathlib.Core.Bool.{_&&_}
 use lib.Dec.{ltb}
 use Rattle.limits.specs.Limits.{registers}
-use Rattle.program_bytes.specs.Ops.{opAt, Target as OpTarget}
-use Rattle.program_bytes.specs.Ops.Target.{noTarget, toLocation, toLine}
-use Rattle.program_bytes.specs.Format.{whenUsed, zeroUnlessUsed, usesTarget, isRegAndRest, isOperand, areOperands}
+use Rattle.program.specs.Ops.{opAt, Target as OpTarget}
+use Rattle.program.specs.Ops.Target.{noTarget, toLocation, toLine}
+use Rattle.program.specs.Format.{whenUsed, zeroUnlessUsed, usesTarget, isRegAndRest, isOperand, areOperands}
 use Rattle.records.specs.Fields.{targetMeans, targetOf, rowOf}
 use Rattle.records.specs.declared.Fields.{Fields}
 use Rattle.records.specs.declared.Row.{Row}

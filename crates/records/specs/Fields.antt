@@ -3,8 +3,8 @@ use Prim.Native.Nat.{ℕ}
 use mathlib.Core.Bool.{Bool}
 use mathlib.Core.List.{List}
 use lib.ListN.{getD}
-use Rattle.program_bytes.specs.Ops.{Op, Target as OpTarget}
-use Rattle.program_bytes.specs.Ops.Target.{noTarget, toLocation, toLine}
+use Rattle.program.specs.Ops.{Op, Target as OpTarget}
+use Rattle.program.specs.Ops.Target.{noTarget, toLocation, toLine}
 use Rattle.records.specs.declared.Fields.{Fields}
 use Rattle.records.specs.declared.Row.{Row}
 use Rattle.records.specs.declared.Target.{Target}

@@ -1,11 +1,11 @@
-// The tests of one record, each an equation with its definition in specs/Format.antt of the crate program_bytes: its
+// The tests of one record, each an equation with its definition in specs/Format.antt of the crate program: its
 // mark, and the fields of a line. Which test comes first, and what number it has, is the reader's (crate format).
 ghost use mathlib.Core.Path.{_≡_};
 ghost use Prim.Native.Nat.{_+_, _≤_};
 ghost use lib.ListN.{length, drop};
-ghost use Rattle.program_bytes.specs.Ops.{isOp, opAt};
-ghost use Rattle.program_bytes.specs.Format.{startsWith, isRecord, isOperand, whenUsed, zeroUnlessUsed};
-ghost use Rattle.program_bytes.specs.Format.{usesTarget, isTarget, isRegAndRest, areOperands};
+ghost use Rattle.program.specs.Ops.{isOp, opAt};
+ghost use Rattle.program.specs.Format.{startsWith, isRecord, isOperand, whenUsed, zeroUnlessUsed};
+ghost use Rattle.program.specs.Format.{usesTarget, isTarget, isRegAndRest, areOperands};
 ghost use Rattle.records.specs.Fields.{fieldsOf, makeRow, rowOf, targetMeans};
 
 // The byte that stands for register 0 as an operand.

@@ -4,8 +4,8 @@ use mathlib.Core.Path.{_≡_, refl, ap}
 use mathlib.Core.List.{List}
 use lib.ListN.{length}
 use Rattle.program.specs.Program.{Program}
-use Rattle.program_bytes.specs.Outcome.{Outcome, refused, accepted}
-use Rattle.program_bytes.specs.Format.{readProgram}
+use Rattle.program.specs.Outcome.{Outcome, refused, accepted}
+use Rattle.program.specs.Format.{readProgram}
 use Rattle.rules.specs.Situation.{Situation}
 use Rattle.rules.specs.declared.Ending.{Ending}
 use Rattle.rules.proofs.Searched.{searchedOn}

@@ -7,9 +7,9 @@ use mathlib.Core.Option.{Option, none, some}
 use mathlib.Core.List.{List, [], _∷_}
 use Rattle.program.specs.Program.{constant, Line, write, read, wait, Program}
 use Rattle.program.specs.declared.Kind.the-variants.{Read, Write}
-use Rattle.program_bytes.specs.Outcome.{accepted}
+use Rattle.program.specs.Outcome.{accepted}
 use Rattle.program.specs.Within.{Valid}
-use Rattle.program_bytes.specs.Spelling.{operandByte, spellLine, spellLines, spellThread, spellThreads, spell}
+use Rattle.program.specs.Spelling.{operandByte, spellLine, spellLines, spellThread, spellThreads, spell}
 use Rattle.robustness.specs.Robust.{Robust, NotRobust}
 use Rattle.rules.specs.Situation.{Situation}
 use Rattle.rules.specs.declared.Ending.{Ending}

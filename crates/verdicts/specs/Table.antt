@@ -5,7 +5,7 @@ use mathlib.Core.List.{List, [], _∷_, _++_}
 use lib.ListN.{length}
 use Rattle.program.specs.declared.Kind.{Kind}
 use Rattle.program.specs.declared.Kind.the-variants.{Read, Write}
-use Rattle.program_bytes.specs.Format.{readProgram}
+use Rattle.program.specs.Format.{readProgram}
 use Rattle.verdicts.specs.Answer.{Answer, robust, ended, placesFull, traceShort, turnedDown, answerOf, traceAfter}
 
 -- What is handed in, the answer, and the lent trace at exit.

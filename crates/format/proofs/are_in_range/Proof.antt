@@ -1,5 +1,5 @@
 -- `format::are_in_range` meets its contract. Each test that fails decides check 2.
-use Rattle.program_bytes.specs.Format.{areInRange}
+use Rattle.program.specs.Format.{areInRange}
 use borrow.Author.Tests.{le-leb, lt-leb}
 use Rattle.format.proofs.are_in_range.Statement.{statement}
 use Rattle.format.proofs.are_in_range.Tie as tie

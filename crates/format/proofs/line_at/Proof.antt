@@ -2,7 +2,7 @@
 -- definition reads.
 use Rattle.format.proofs.AcceptedLines.{in-row, line-fits, line-made}
 use Rattle.limits.specs.Limits.{maxThreads}
-use Rattle.program_bytes.specs.Format.{sizeIN}
+use Rattle.program.specs.Format.{sizeIN}
 use Prim.Native.Nat.{_+_, _*_, _<_, _≤_}
 use lib.ListN.{length, getD}
 use denote.Ref.{now}

@@ -1,9 +1,9 @@
 -- `format::read` meets its contract. Checks 1 and 2, and then what `read_threads` ensures.
-use Rattle.program_bytes.proofs.HeaderLaws.{in-range}
+use Rattle.program.proofs.HeaderLaws.{in-range}
 use Rattle.format.proofs.Turns.{record-fits}
 use Rattle.format.specs.Answer.{reading}
-use Rattle.program_bytes.specs.Format.{isRecord, markPR, sizePR, readProgram}
-use Rattle.program_bytes.specs.Outcome.{check}
+use Rattle.program.specs.Format.{isRecord, markPR, sizePR, readProgram}
+use Rattle.program.specs.Outcome.{check}
 use borrow.Author.Tests.{not-true, not-false}
 use denote.Ref.{now}
 use native.Mathlib.Omega.{arith}

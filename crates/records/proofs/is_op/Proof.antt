@@ -1,5 +1,5 @@
 -- `records::is_op` meets its contract. The two comparisons are those of the definition.
-use Rattle.program_bytes.specs.Ops.{isOp, opTable}
+use Rattle.program.specs.Ops.{isOp, opTable}
 use borrow.Author.Tests.{le-leb, lt-leb}
 use Rattle.records.proofs.is_op.Statement.{statement}
 use Rattle.records.proofs.is_op.Tie as tie

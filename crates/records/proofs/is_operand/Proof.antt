@@ -1,6 +1,6 @@
 -- `records::is_operand` meets its contract. By the three comparisons.
 use borrow.Author.Needs.{needs}
-use Rattle.program_bytes.specs.Format.{isOperand}
+use Rattle.program.specs.Format.{isOperand}
 use borrow.Author.Tests.{lt-ltb, le-ltb, le-leb, lt-leb}
 use Rattle.records.proofs.is_operand.Statement.{statement}
 use Rattle.records.proofs.is_operand.Tie as tie

@@ -4,7 +4,7 @@ use mathlib.Core.Bool.{Bool, true}
 use mathlib.Core.Path.{_≡_, ap, sym, _∙_}
 use lib.Dec.{ltb}
 use Rattle.limits.specs.Limits.{registers}
-use Rattle.program_bytes.specs.Format.{whenUsed, zeroUnlessUsed, usesTarget}
+use Rattle.program.specs.Format.{whenUsed, zeroUnlessUsed, usesTarget}
 use Rattle.records.specs.Fields.{targetMeans}
 use Rattle.records.proofs.RowTests.{five-tests}
 use borrow.Author.Needs.{needs}

@@ -1,6 +1,6 @@
 -- `records::is_target` meets its contract. By cases on the target.
 use Rattle.records.specs.Fields.{targetMeans}
-use Rattle.program_bytes.specs.Format.{isTarget}
+use Rattle.program.specs.Format.{isTarget}
 use borrow.Author.Needs.{needs}
 use Rattle.records.proofs.is_target.Statement.{statement}
 use Rattle.records.proofs.is_target.Tie as tie

@@ -1,7 +1,7 @@
 -- `records::row_of` meets its contract. Each arm is its row of the op table; what is no op has the first row.
 use Rattle.records.proofs.FirstRow.{first-row}
 use Rattle.records.specs.Fields.{rowOf, targetOf}
-use Rattle.program_bytes.specs.Ops.{opTable, opAt, sumOp}
+use Rattle.program.specs.Ops.{opTable, opAt, sumOp}
 use mathlib.Core.Path.{_∙_}
 use borrow.Author.Needs.{needs}
 use Rattle.records.proofs.row_of.Statement.{statement}

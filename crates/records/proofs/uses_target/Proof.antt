@@ -1,6 +1,6 @@
 -- `records::uses_target` meets its contract. By cases on the target.
 use Rattle.records.specs.Fields.{targetMeans}
-use Rattle.program_bytes.specs.Format.{usesTarget}
+use Rattle.program.specs.Format.{usesTarget}
 use borrow.Author.Needs.{needs}
 use Rattle.records.proofs.uses_target.Statement.{statement}
 use Rattle.records.proofs.uses_target.Tie as tie

@@ -1,5 +1,5 @@
 -- `records::when_used` meets its contract. By cases on the flag.
-use Rattle.program_bytes.specs.Format.{whenUsed}
+use Rattle.program.specs.Format.{whenUsed}
 use Rattle.records.proofs.when_used.Statement.{statement}
 use Rattle.records.proofs.when_used.Tie as tie
 

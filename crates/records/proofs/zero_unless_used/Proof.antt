@@ -1,5 +1,5 @@
 -- `records::zero_unless_used` meets its contract. By cases on the flag.
-use Rattle.program_bytes.specs.Format.{zeroUnlessUsed}
+use Rattle.program.specs.Format.{zeroUnlessUsed}
 use Rattle.records.proofs.zero_unless_used.Statement.{statement}
 use Rattle.records.proofs.zero_unless_used.Tie as tie
 

@@ -1,8 +1,8 @@
 -- `format::lines::check_fields` meets its contract. Checks 5 to 8 in turn; the first that fails decides.
-use Rattle.program_bytes.specs.Ops.{isOp, opAt, Target as OpTarget}
+use Rattle.program.specs.Ops.{isOp, opAt, Target as OpTarget}
 use Rattle.format.specs.Inner.{checkOf}
-use Rattle.program_bytes.specs.Outcome.{check}
-use Rattle.program_bytes.specs.Format.{fieldsToLine, isRegAndRest, isTarget}
+use Rattle.program.specs.Outcome.{check}
+use Rattle.program.specs.Format.{fieldsToLine, isRegAndRest, isTarget}
 use borrow.Author.Tests.{not-true, not-false}
 use mathlib.Core.Bool.{true}
 use mathlib.Core.Path.{_≡_, sym, _∙_, ap}

@@ -2,8 +2,8 @@
 use Rattle.format.proofs.Turns.{record-fits, line-checked}
 use Rattle.records.specs.declared.Fields.{Fields}
 use Rattle.format.specs.Inner.{checkOf}
-use Rattle.program_bytes.specs.Format.{isRecord, readLine, markIN, sizeIN, fieldsToLine}
-use Rattle.program_bytes.specs.Outcome.{check}
+use Rattle.program.specs.Format.{isRecord, readLine, markIN, sizeIN, fieldsToLine}
+use Rattle.program.specs.Outcome.{check}
 use borrow.Author.Tests.{not-true, not-false}
 use lib.ListN.{drop}
 use denote.Ref.{now}

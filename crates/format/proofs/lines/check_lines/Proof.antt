@@ -1,6 +1,6 @@
 -- `format::lines::check_lines` meets its contract. The lines still to be read come to the same check as all of them.
 use Rattle.format.proofs.Turns.{LinesAhead, turn-fails, turn-passes, lines-end}
-use Rattle.program_bytes.specs.Format.{sizeIN}
+use Rattle.program.specs.Format.{sizeIN}
 use denote.Ref.{now}
 use native.Mathlib.Omega.{arith}
 use Prim.Native.Nat.{_+_, _-_}

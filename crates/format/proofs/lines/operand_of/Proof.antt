@@ -3,7 +3,7 @@ use Prim.Native.Nat.{_-_}
 use mathlib.Core.Path.{_≡_}
 use native.Mathlib.Omega.{arith}
 use borrow.Author.Tests.{lt-ltb, le-ltb}
-use Rattle.program_bytes.specs.Format.{operand}
+use Rattle.program.specs.Format.{operand}
 use Rattle.format.specs.Answer.{operandMeans}
 use Rattle.format.proofs.lines.operand_of.Statement.{statement}
 use Rattle.format.proofs.lines.operand_of.Tie as tie

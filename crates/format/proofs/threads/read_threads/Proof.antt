@@ -2,7 +2,7 @@
 -- comes to the answer.
 use Rattle.format.proofs.Filling.{Ahead, withThread, begins, turn-fails, turn-passes}
 use Rattle.format.proofs.Filling.{input-ends, input-goes-on}
-use Rattle.program_bytes.specs.Format.{sizeTH, sizeIN}
+use Rattle.program.specs.Format.{sizeTH, sizeIN}
 use denote.Ref.{now}
 use native.Mathlib.Omega.{arith}
 use Prim.Native.Nat.{_+_, _-_, _*_}

@@ -6,7 +6,7 @@ use mathlib.Core.Path.{_≡_, refl, ap₂}
 use lib.ListN.{length, drop}
 use lib.Dec.{eqb, leb}
 use borrow.Author.Tests.{leb-true, le-leb, eqb-true, eq-eqb}
-use Rattle.program_bytes.specs.Format.{startsWith, isRecord}
+use Rattle.program.specs.Format.{startsWith, isRecord}
 
 -- The bytes start with a mark: they are it, and what follows.
 pub mark-stands : (mark bytes : List ℕ) → startsWith mark bytes ≡ true → bytes ≡ mark ++ drop (length mark) bytes

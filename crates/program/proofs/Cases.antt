@@ -5,14 +5,14 @@ use mathlib.Core.Path.{_≡_, refl}
 use mathlib.Core.Bool.{Bool, true, _&&_}
 use mathlib.Core.List.{List, [], _∷_, _++_}
 use lib.Dec.{eqb}
 use Rattle.program.specs.Program.{Program}
-use Rattle.program_bytes.specs.Outcome.{Outcome, refused, accepted, check, andThen}
-use Rattle.program_bytes.specs.Ops.{isOp, opAt, opTable, sumOp}
-use Rattle.program_bytes.specs.Format.{markPR, markTH, startsWith, isRecord, isOperand, operand, whenUsed}
-use Rattle.program_bytes.specs.Format.{zeroUnlessUsed, usesTarget, isRegAndRest, isTarget, areOperands}
-use Rattle.program_bytes.specs.Format.{fieldsToLine, readLine, readLines, readThread, readThreads, areInRange}
-use Rattle.program_bytes.specs.Format.{endsAfter, readProgram}
-use Rattle.program_bytes.specs.Spelling.{lineRecord}
+use Rattle.program.specs.Outcome.{Outcome, refused, accepted, check, andThen}
+use Rattle.program.specs.Ops.{isOp, opAt, opTable, sumOp}
+use Rattle.program.specs.Format.{markPR, markTH, startsWith, isRecord, isOperand, operand, whenUsed}
+use Rattle.program.specs.Format.{zeroUnlessUsed, usesTarget, isRegAndRest, isTarget, areOperands}
+use Rattle.program.specs.Format.{fieldsToLine, readLine, readLines, readThread, readThreads, areInRange}
+use Rattle.program.specs.Format.{endsAfter, readProgram}
+use Rattle.program.specs.Spelling.{lineRecord}
 
 -- The number of the failed check, 0 where the input is accepted.
 abbrev number : Outcome Program → ℕ

@@ -9,8 +9,8 @@ use lib.Seq.{drop-cons}
 use lib.Dec.{leb}
 use borrow.Author.Tests.{leb-true, le-leb}
 use Rattle.limits.specs.Limits.{maxThreads, maxLocations, minValues, maxValues}
-use Rattle.program_bytes.specs.Format.{markPR, sizePR, isRecord, areInRange}
-use Rattle.program_bytes.proofs.RecordLaws.{record-stands}
+use Rattle.program.specs.Format.{markPR, sizePR, isRecord, areInRange}
+use Rattle.program.proofs.RecordLaws.{record-stands}
 
 -- Check 2, as inequalities.
 pub record InRange (T L K : ℕ) : Type 0 where

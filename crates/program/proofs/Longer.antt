@@ -12,15 +12,15 @@ use lib.Seq.{getD-take}
 use borrow.Author.Tests.{leb-true, le-leb, lt-leb}
 use Rattle.lists.proofs.Stores.{drop-of-front}
 use Rattle.limits.specs.Limits.{maxThreads, maxLines}
 use Rattle.program.specs.Program.{Line}
-use Rattle.program_bytes.specs.Outcome.{Outcome, check, andThen}
-use Rattle.program_bytes.specs.Outcome.Outcome.{refused, accepted}
-use Rattle.program_bytes.specs.Format.{markPR, markTH, markIN, sizePR, sizeTH, sizeIN, startsWith, isRecord}
-use Rattle.program_bytes.specs.Format.{areInRange, fieldsToLine, readLine, readLines, readThread, readThreads}
-use Rattle.program_bytes.specs.Format.{endsAfter, readProgram}
-use Rattle.program_bytes.proofs.HeaderLaws.{in-range}
-use Rattle.program_bytes.proofs.PartsLaws.{readMore, more-read}
-use Rattle.program_bytes.proofs.OutcomeLaws.{andThen-goes-on, andThen-stops}
+use Rattle.program.specs.Outcome.{Outcome, check, andThen}
+use Rattle.program.specs.Outcome.Outcome.{refused, accepted}
+use Rattle.program.specs.Format.{markPR, markTH, markIN, sizePR, sizeTH, sizeIN, startsWith, isRecord}
+use Rattle.program.specs.Format.{areInRange, fieldsToLine, readLine, readLines, readThread, readThreads}
+use Rattle.program.specs.Format.{endsAfter, readProgram}
+use Rattle.program.proofs.HeaderLaws.{in-range}
+use Rattle.program.proofs.PartsLaws.{readMore, more-read}
+use Rattle.program.proofs.OutcomeLaws.{andThen-goes-on, andThen-stops}
 
 -- The front is long enough where the whole is.
 length-of-front : (size n : ℕ) (bytes : List ℕ) → size ≤ n → leb size (length (take n bytes)) ≡ leb size (length bytes)

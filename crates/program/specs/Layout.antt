@@ -2,8 +2,8 @@
 use Prim.Native.Nat.{ℕ, _+_, _*_}
 use mathlib.Core.List.{List, [], _∷_}
 use lib.ListN.{length, getD}
 use Rattle.program.specs.Program.{Line}
-use Rattle.program_bytes.specs.Format.{sizePR, sizeTH, sizeIN}
+use Rattle.program.specs.Format.{sizePR, sizeTH, sizeIN}
 
 -- "TH, n: opens a thread of n lines": the bytes of its TH record and of its IN records.
 abbrev pub threadSize : List Line → ℕ

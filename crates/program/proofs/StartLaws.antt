@@ -6,15 +6,15 @@ use native.Mathlib.Nat.{add-zero}
 use native.Mathlib.Omega.{arith}
 use lib.ListN.{length, getD, length-append}
 use Rattle.limits.specs.Limits.{maxThreads, maxLines}
 use Rattle.program.specs.Program.{Line, Program}
-use Rattle.program_bytes.specs.Outcome.Outcome.{accepted}
-use Rattle.program_bytes.specs.Format.{sizePR, sizeTH, sizeIN, readProgram}
-use Rattle.program_bytes.specs.Spelling.{spellThread, spellThreads, spell}
+use Rattle.program.specs.Outcome.Outcome.{accepted}
+use Rattle.program.specs.Format.{sizePR, sizeTH, sizeIN, readProgram}
+use Rattle.program.specs.Spelling.{spellThread, spellThreads, spell}
 use Rattle.program.specs.Within.{ThreadWithin, All}
 use Rattle.program.specs.Within.All.{none, more}
-use Rattle.program_bytes.specs.Layout.{threadSize, startsFrom, startOf}
-use Rattle.program_bytes.proofs.SpellingLength.{length-spellThread}
-use Rattle.program_bytes.proofs.RoundTrip.{accepted-is-spelling}
+use Rattle.program.specs.Layout.{threadSize, startsFrom, startOf}
+use Rattle.program.proofs.SpellingLength.{length-spellThread}
+use Rattle.program.proofs.RoundTrip.{accepted-is-spelling}
 
 pub length-startsFrom : (at : ℕ) (threads : List (List Line)) → length (startsFrom at threads) ≡ length threads
 unfolding startsFrom

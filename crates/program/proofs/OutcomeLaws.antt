@@ -3,8 +3,8 @@ use Prim.Native.Nat.{ℕ}
 use mathlib.Core.Bool.{Bool, true, false}
 use mathlib.Core.Path.{_≡_, refl}
 use native.Mathlib.Omega.{arith}
-use Rattle.program_bytes.specs.Outcome.{Outcome, check, andThen}
-use Rattle.program_bytes.specs.Outcome.Outcome.{refused, accepted}
+use Rattle.program.specs.Outcome.{Outcome, check, andThen}
+use Rattle.program.specs.Outcome.Outcome.{refused, accepted}
 
 module _ {A : Type 0} where
   pub accepted-injective : {a b : A} → accepted a ≡ accepted b → a ≡ b

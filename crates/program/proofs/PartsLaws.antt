@@ -2,10 +2,10 @@
 use Prim.Native.Nat.{ℕ}
 use mathlib.Core.List.{List, _∷_}
 use mathlib.Core.Path.{_≡_, _∙_}
-use Rattle.program_bytes.specs.Outcome.{Outcome, andThen}
-use Rattle.program_bytes.specs.Outcome.Outcome.{accepted}
-use Rattle.program_bytes.proofs.OutcomeLaws.{accepted-injective}
-use Rattle.program_bytes.proofs.OutcomeLaws.{andThen-goes-on, andThen-accepted}
+use Rattle.program.specs.Outcome.{Outcome, andThen}
+use Rattle.program.specs.Outcome.Outcome.{accepted}
+use Rattle.program.proofs.OutcomeLaws.{accepted-injective}
+use Rattle.program.proofs.OutcomeLaws.{andThen-goes-on, andThen-accepted}
 
 -- One part and then the others, each read with the bytes after it.
 abbrev pub readMore : {A : Type 0} → Outcome (A × List ℕ) → (List ℕ → Outcome (List A × List ℕ))

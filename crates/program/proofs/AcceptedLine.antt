@@ -9,17 +9,17 @@ use lib.Seq.{drop-cons}
 use lib.Dec.{ltb}
 use borrow.Author.Tests.{ltb-true}
 use Rattle.limits.specs.Limits.{registers}
 use Rattle.program.specs.Program.{Line}
-use Rattle.program_bytes.specs.Outcome.Outcome.{accepted}
-use Rattle.program_bytes.specs.Ops.{isOp, opAt}
-use Rattle.program_bytes.specs.Format.{markIN, sizeIN, isRecord, isOperand, operand, whenUsed, zeroUnlessUsed}
-use Rattle.program_bytes.specs.Format.{usesTarget, isRegAndRest, isTarget, areOperands, fieldsToLine, readLine}
-use Rattle.program_bytes.specs.Spelling.{lineRecord, spellLine}
+use Rattle.program.specs.Outcome.Outcome.{accepted}
+use Rattle.program.specs.Ops.{isOp, opAt}
+use Rattle.program.specs.Format.{markIN, sizeIN, isRecord, isOperand, operand, whenUsed, zeroUnlessUsed}
+use Rattle.program.specs.Format.{usesTarget, isRegAndRest, isTarget, areOperands, fieldsToLine, readLine}
+use Rattle.program.specs.Spelling.{lineRecord, spellLine}
 use Rattle.program.specs.Within.{LineWithin}
-use Rattle.program_bytes.proofs.OutcomeLaws.{accepted-injective, check-accepted, andThen-accepted}
-use Rattle.program_bytes.proofs.RecordLaws.{record-stands}
-use Rattle.program_bytes.proofs.FieldLaws.{operand-within, field-kept, operand-kept, when-used}
-use Rattle.program_bytes.proofs.RowLaws.{row-spelled, row-within}
+use Rattle.program.proofs.OutcomeLaws.{accepted-injective, check-accepted, andThen-accepted}
+use Rattle.program.proofs.RecordLaws.{record-stands}
+use Rattle.program.proofs.FieldLaws.{operand-within, field-kept, operand-kept, when-used}
+use Rattle.program.proofs.RowLaws.{row-spelled, row-within}
 
 -- What checks 5 to 8 of five fields give, and the line that the fields are.
 pub record FieldsRead (L K n op reg target a b : ℕ) (line : Line) : Type 0 where

@@ -2,10 +2,10 @@
 use Prim.Native.Nat.{ℕ, _+_}
 use mathlib.Core.List.{List, [], _∷_, _++_}
 use lib.ListN.{length}
 use Rattle.program.specs.Program.{Operand, Line, Program}
 use Rattle.program.specs.Program.Operand.{constant, register}
 use Rattle.program.specs.Program.Line.{sum, equal, less, jump, write, read, fadd, cas, wait, bcas}
-use Rattle.program_bytes.specs.Format.{markPR, markTH, markIN, firstRegister}
+use Rattle.program.specs.Format.{markPR, markTH, markIN, firstRegister}
 
 -- The byte of an operand.
 unfoldable pub operandByte : Operand → ℕ

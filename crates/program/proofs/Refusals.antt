@@ -5,10 +5,10 @@ use mathlib.Core.List.{List}
 use mathlib.Core.Path.{_≡_, subst}
 use native.Mathlib.Omega.{arith}
 use lib.ListN.{getD, drop}
-use Rattle.program_bytes.specs.Outcome.{Outcome, check, andThen}
-use Rattle.program_bytes.specs.Outcome.Outcome.{refused, accepted}
-use Rattle.program_bytes.specs.Format.{sizePR, sizeTH, fieldsToLine, readLine, readLines, readThread, readThreads}
-use Rattle.program_bytes.specs.Format.{endsAfter, readProgram}
+use Rattle.program.specs.Outcome.{Outcome, check, andThen}
+use Rattle.program.specs.Outcome.Outcome.{refused, accepted}
+use Rattle.program.specs.Format.{sizePR, sizeTH, fieldsToLine, readLine, readLines, readThread, readThreads}
+use Rattle.program.specs.Format.{endsAfter, readProgram}
 
 -- If it is refused, then with a number from low to high.
 abbrev pub RefusedFrom : {A : Type 0} → (low high : ℕ) → Outcome A → Type 0

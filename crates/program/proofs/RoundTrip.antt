@@ -7,17 +7,17 @@ use native.Mathlib.Omega.{arith}
 use lib.ListN.{length, getD, drop}
 use borrow.Author.Tests.{eqb-true}
 use Rattle.lists.proofs.Places.{nothing-of-length-zero}
 use Rattle.program.specs.Program.{Line, Program}
-use Rattle.program_bytes.specs.Outcome.Outcome.{accepted}
-use Rattle.program_bytes.specs.Format.{markPR, sizePR, isRecord, endsAfter, readThreads, readProgram}
-use Rattle.program_bytes.specs.Spelling.{spellThreads, spell}
+use Rattle.program.specs.Outcome.Outcome.{accepted}
+use Rattle.program.specs.Format.{markPR, sizePR, isRecord, endsAfter, readThreads, readProgram}
+use Rattle.program.specs.Spelling.{spellThreads, spell}
 use Rattle.program.specs.Within.{Within}
-use Rattle.program_bytes.proofs.OutcomeLaws.{accepted-injective, check-passes, check-accepted}
-use Rattle.program_bytes.proofs.OutcomeLaws.{andThen-goes-on, andThen-accepted}
-use Rattle.program_bytes.proofs.RecordLaws.{record-found}
-use Rattle.program_bytes.proofs.HeaderLaws.{InRange, in-range, are-in-range, program-record-stands}
-use Rattle.program_bytes.proofs.AcceptedThreads.{ThreadsRead, threads-read}
-use Rattle.program_bytes.proofs.SpelledThreads.{read-threads}
+use Rattle.program.proofs.OutcomeLaws.{accepted-injective, check-passes, check-accepted}
+use Rattle.program.proofs.OutcomeLaws.{andThen-goes-on, andThen-accepted}
+use Rattle.program.proofs.RecordLaws.{record-found}
+use Rattle.program.proofs.HeaderLaws.{InRange, in-range, are-in-range, program-record-stands}
+use Rattle.program.proofs.AcceptedThreads.{ThreadsRead, threads-read}
+use Rattle.program.proofs.SpelledThreads.{read-threads}
 
 -- Reading the spelling of a program within the limits gives that program.
 pub read-spelling : (p : Program) → Within p → readProgram (spell p) ≡ accepted p

@@ -7,11 +7,11 @@ use native.Mathlib.Omega.{arith}
 use lib.Dec.{leb, ltb}
 use borrow.Author.Tests.{ltb-true, leb-true, eqb-true, lt-ltb, le-ltb, le-leb}
 use Rattle.limits.specs.Limits.{registers}
 use Rattle.program.specs.Program.{Operand}
 use Rattle.program.specs.Program.Operand.{constant, register}
-use Rattle.program_bytes.specs.Format.{firstRegister, isOperand, operand, whenUsed, zeroUnlessUsed}
-use Rattle.program_bytes.specs.Spelling.{operandByte}
+use Rattle.program.specs.Format.{firstRegister, isOperand, operand, whenUsed, zeroUnlessUsed}
+use Rattle.program.specs.Spelling.{operandByte}
 use Rattle.program.specs.Within.{OperandWithin}
 
 -- A byte in range that is no constant is a register's.
 register-in-range : (K x : ℕ) → isOperand K x ≡ true → ltb x K ≡ false

@@ -4,10 +4,10 @@ use mathlib.Core.List.{List, [], _∷_}
 use mathlib.Core.Path.{_≡_, refl}
 use native.Mathlib.Omega.{arith}
 use lib.ListN.{length, length-append}
 use Rattle.program.specs.Program.{Line}
 use Rattle.program.specs.Program.Line.{sum, equal, less, jump, write, read, fadd, cas, wait, bcas}
-use Rattle.program_bytes.specs.Format.{sizeTH, sizeIN}
-use Rattle.program_bytes.specs.Spelling.{spellLine, spellLines, spellThread}
+use Rattle.program.specs.Format.{sizeTH, sizeIN}
+use Rattle.program.specs.Spelling.{spellLine, spellLines, spellThread}
 
 pub length-spellLine : (line : Line) → length (spellLine line) ≡ sizeIN
 unfolding spellLine

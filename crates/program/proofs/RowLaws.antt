@@ -6,11 +6,11 @@ use native.Mathlib.Omega.{arith}
 use lib.Dec.{leb}
 use borrow.Author.Tests.{leb-true}
 use Rattle.limits.specs.Limits.{registers}
 use Rattle.program.specs.Program.{Operand}
-use Rattle.program_bytes.specs.Ops.{sumOp, opTable, isOp, opAt}
-use Rattle.program_bytes.specs.Format.{usesTarget, isTarget}
-use Rattle.program_bytes.specs.Spelling.{operandByte, lineRecord, spellLine}
+use Rattle.program.specs.Ops.{sumOp, opTable, isOp, opAt}
+use Rattle.program.specs.Format.{usesTarget, isTarget}
+use Rattle.program.specs.Spelling.{operandByte, lineRecord, spellLine}
 use Rattle.program.specs.Within.{OperandWithin, LineWithin}
 
 -- What holds of each number from 1 to 10 holds of each op.
 pub each-op : (P : ℕ → Type 0) → P 1 × P 2 × P 3 × P 4 × P 5 × P 6 × P 7 × P 8 × P 9 × P 10

@@ -8,19 +8,19 @@ use lib.ListN.{length, getD, drop}
 use lib.Seq.{drop-cons}
 use borrow.Author.Tests.{leb-true}
 use Rattle.limits.specs.Limits.{maxLines}
 use Rattle.program.specs.Program.{Line}
-use Rattle.program_bytes.specs.Outcome.Outcome.{accepted}
-use Rattle.program_bytes.specs.Format.{markTH, sizeTH, sizeIN, isRecord, readLines, readThread, readThreads}
-use Rattle.program_bytes.specs.Spelling.{spellLine, spellLines, spellThread, spellThreads}
+use Rattle.program.specs.Outcome.Outcome.{accepted}
+use Rattle.program.specs.Format.{markTH, sizeTH, sizeIN, isRecord, readLines, readThread, readThreads}
+use Rattle.program.specs.Spelling.{spellLine, spellLines, spellThread, spellThreads}
 use Rattle.program.specs.Within.{LineWithin, ThreadWithin}
 use Rattle.program.specs.Within.{All}
 use Rattle.program.specs.Within.All.{none, more}
-use Rattle.program_bytes.proofs.OutcomeLaws.{accepted-injective, check-accepted}
-use Rattle.program_bytes.proofs.PartsLaws.{more-accepted}
-use Rattle.program_bytes.proofs.RecordLaws.{record-stands}
-use Rattle.program_bytes.proofs.FrontLaws.{front-is-whole, after-front, fronts-join}
-use Rattle.program_bytes.proofs.SpellingLength.{length-spellLines, length-spellThread}
-use Rattle.program_bytes.proofs.AcceptedLine.{LineRead, line-read}
+use Rattle.program.proofs.OutcomeLaws.{accepted-injective, check-accepted}
+use Rattle.program.proofs.PartsLaws.{more-accepted}
+use Rattle.program.proofs.RecordLaws.{record-stands}
+use Rattle.program.proofs.FrontLaws.{front-is-whole, after-front, fronts-join}
+use Rattle.program.proofs.SpellingLength.{length-spellLines, length-spellThread}
+use Rattle.program.proofs.AcceptedLine.{LineRead, line-read}
 
 -- What a number of accepted lines gives.
 pub record LinesRead (L K n count : ℕ) (bytes : List ℕ) (lines : List Line) (rest : List ℕ) : Type 0 where

@@ -6,18 +6,18 @@ use native.Mathlib.Omega.{arith}
 use lib.ListN.{length, getD, drop, length-drop}
 use lib.Seq.{drop-drop, drop-at, getD-drop}
 use Rattle.limits.specs.Limits.{minValues, maxValues}
 use Rattle.program.specs.Program.{Line, Program, linesOf}
-use Rattle.program_bytes.specs.Outcome.Outcome.{accepted}
-use Rattle.program_bytes.specs.Format.{sizePR, sizeTH, sizeIN, readLine, readProgram}
-use Rattle.program_bytes.specs.Spelling.{spellLine, spellLines, spellThread, spellThreads, spell}
+use Rattle.program.specs.Outcome.Outcome.{accepted}
+use Rattle.program.specs.Format.{sizePR, sizeTH, sizeIN, readLine, readProgram}
+use Rattle.program.specs.Spelling.{spellLine, spellLines, spellThread, spellThreads, spell}
 use Rattle.program.specs.Within.{LineWithin}
-use Rattle.program_bytes.specs.Layout.{threadSize, startsFrom, startOf}
+use Rattle.program.specs.Layout.{threadSize, startsFrom, startOf}
 use Rattle.program.proofs.AllLaws.{all-at}
-use Rattle.program_bytes.proofs.SpellingLength.{length-spellLine, length-spellThread}
-use Rattle.program_bytes.proofs.AcceptedLine.{FieldsRead, line-read}
-use Rattle.program_bytes.proofs.SpelledLine.{read-line}
-use Rattle.program_bytes.proofs.FrontLaws.{front-is-whole, drop-past-front}
-use Rattle.program_bytes.proofs.RoundTrip.{accepted-is-spelling}
+use Rattle.program.proofs.SpellingLength.{length-spellLine, length-spellThread}
+use Rattle.program.proofs.AcceptedLine.{FieldsRead, line-read}
+use Rattle.program.proofs.SpelledLine.{read-line}
+use Rattle.program.proofs.FrontLaws.{front-is-whole, drop-past-front}
+use Rattle.program.proofs.RoundTrip.{accepted-is-spelling}
 
 -- Line i of spelled lines, and the lines after it.
 lines-from : (lines : List Line) (i : ℕ) (d : Line) (rest : List ℕ) → i < length lines

@@ -6,16 +6,16 @@ use native.Mathlib.Omega.{arith}
 use lib.ListN.{length}
 use borrow.Author.Tests.{le-leb}
 use Rattle.limits.specs.Limits.{minValues, maxValues, maxLines}
 use Rattle.program.specs.Program.{Line}
-use Rattle.program_bytes.specs.Outcome.Outcome.{accepted}
-use Rattle.program_bytes.specs.Format.{markTH, sizeTH, readLines, readThread, readThreads}
-use Rattle.program_bytes.specs.Spelling.{spellLine, spellLines, spellThread, spellThreads}
+use Rattle.program.specs.Outcome.Outcome.{accepted}
+use Rattle.program.specs.Format.{markTH, sizeTH, readLines, readThread, readThreads}
+use Rattle.program.specs.Spelling.{spellLine, spellLines, spellThread, spellThreads}
 use Rattle.program.specs.Within.{LineWithin, ThreadWithin, All}
 use Rattle.program.specs.Within.All.{none, more}
-use Rattle.program_bytes.proofs.OutcomeLaws.{check-passes}
-use Rattle.program_bytes.proofs.PartsLaws.{more-read}
-use Rattle.program_bytes.proofs.RecordLaws.{record-found}
-use Rattle.program_bytes.proofs.SpelledLine.{read-line}
+use Rattle.program.proofs.OutcomeLaws.{check-passes}
+use Rattle.program.proofs.PartsLaws.{more-read}
+use Rattle.program.proofs.RecordLaws.{record-found}
+use Rattle.program.proofs.SpelledLine.{read-line}
 
 module _ (L K : ℕ) (some-values : minValues ≤ K) (few-values : K ≤ maxValues) where
   pub read-lines : (n : ℕ) (lines : List Line) (rest : List ℕ) → All (LineWithin L K n) lines

@@ -7,18 +7,18 @@ use native.Mathlib.Omega.{arith}
 use lib.Dec.{ltb}
 use borrow.Author.Tests.{le-leb}
 use Rattle.limits.specs.Limits.{registers, minValues, maxValues}
 use Rattle.program.specs.Program.{Operand, Line}
 use Rattle.program.specs.Program.Operand.{constant}
 use Rattle.program.specs.Program.Line.{sum, equal, less, jump, write, read, fadd, cas, wait, bcas}
-use Rattle.program_bytes.specs.Outcome.Outcome.{accepted}
-use Rattle.program_bytes.specs.Ops.{isOp, opAt, opTable, sumOp}
-use Rattle.program_bytes.specs.Format.{markIN, sizeIN, operand, usesTarget, zeroUnlessUsed, whenUsed}
-use Rattle.program_bytes.specs.Format.{isRegAndRest, isTarget, areOperands, fieldsToLine, readLine}
-use Rattle.program_bytes.specs.Spelling.{operandByte, lineRecord, spellLine}
+use Rattle.program.specs.Outcome.Outcome.{accepted}
+use Rattle.program.specs.Ops.{isOp, opAt, opTable, sumOp}
+use Rattle.program.specs.Format.{markIN, sizeIN, operand, usesTarget, zeroUnlessUsed, whenUsed}
+use Rattle.program.specs.Format.{isRegAndRest, isTarget, areOperands, fieldsToLine, readLine}
+use Rattle.program.specs.Spelling.{operandByte, lineRecord, spellLine}
 use Rattle.program.specs.Within.{OperandWithin, LineWithin}
-use Rattle.program_bytes.proofs.OutcomeLaws.{check-passes, andThen-goes-on}
-use Rattle.program_bytes.proofs.RecordLaws.{record-found}
-use Rattle.program_bytes.proofs.FieldLaws.{operand-byte-in-range, operand-read, passes-when-used}
+use Rattle.program.proofs.OutcomeLaws.{check-passes, andThen-goes-on}
+use Rattle.program.proofs.RecordLaws.{record-found}
+use Rattle.program.proofs.FieldLaws.{operand-byte-in-range, operand-read, passes-when-used}
 
 -- Fields that pass checks 5 to 8 give the line of their op's row.
 pub fields-accepted : (L K n op reg target a b : ℕ)

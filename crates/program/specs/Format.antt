@@ -7,12 +7,12 @@ use mathlib.Core.List.{List, [], _∷_}
 use lib.ListN.{length, getD, drop}
 use lib.Dec.{leb, ltb, eqb}
 use Rattle.limits.specs.Limits.{maxThreads, maxLocations, minValues, maxValues, maxLines, registers}
 use Rattle.program.specs.Program.{Operand, Line, Program}
 use Rattle.program.specs.Program.Operand.{constant, register}
-use Rattle.program_bytes.specs.Outcome.{Outcome, check, andThen}
-use Rattle.program_bytes.specs.Outcome.Outcome.{refused, accepted}
-use Rattle.program_bytes.specs.Ops.{Target, Op, isOp, opAt}
-use Rattle.program_bytes.specs.Ops.Target.{noTarget, toLocation, toLine}
+use Rattle.program.specs.Outcome.{Outcome, check, andThen}
+use Rattle.program.specs.Outcome.Outcome.{refused, accepted}
+use Rattle.program.specs.Ops.{Target, Op, isOp, opAt}
+use Rattle.program.specs.Ops.Target.{noTarget, toLocation, toLine}
 
 -- "Each record starts with a two-byte mark in ASCII."
 abbrev pub markPR : List ℕ
