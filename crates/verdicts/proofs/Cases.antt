@@ -1,5 +1,5 @@
--- What the verdict on MP, SB, 2+2W and the barrier says about all runs. Their answers, with counts and lent lengths, are the
--- table of the crate `cases`.
+-- What the verdict on MP, SB, 2+2W and the barrier says about all runs. Their answers, with counts and lent lengths, are
+-- in the table of specs/Table.antt.
 use Prim.Native.Nat.{ℕ}
 use native.Mathlib.Omega.{arith}
 use mathlib.Core.Path.{_≡_, refl, ap, subst, _∙_}
