@@ -11,3 +11,4 @@ pub mod Decidable
 pub mod Choices
 pub mod Reachable
 pub mod Schedules
+pub mod Labels

@@ -3,3 +3,4 @@ pub mod Order
 pub mod Run
 pub mod Witness
 pub mod Readable
+pub mod Labels

@@ -8,3 +8,13 @@ pub enum Kind {
     Write,
     Update,
 }
+
+// What a step shows: that its line is local, or the kind and location of its access and the value read or written.
+pub enum Label {
+    Local,
+    Access {
+        kind: Kind,
+        location: usize,
+        value: u8,
+    },
+}

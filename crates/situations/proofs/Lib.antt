@@ -25,3 +25,4 @@ pub mod TestWitness
 pub mod TestEnding
 pub mod TestNamed
 pub mod ThreadLists
+pub mod Labels
