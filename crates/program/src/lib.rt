@@ -1,5 +1,5 @@
 // The program as data and as bytes, and what a thread's next line does: definitions, the round trip between programs
-// and bytes, and the one type that code shares with them. Main results: read-spelling and accepted-is-spelling
+// and bytes, and the types that code shares with them. Main results: read-spelling and accepted-is-spelling
 // (RoundTrip), longer-judged-by-front (Longer).
 
 // "kind (R, W or M for read-modify-write)": the kind of an access.
