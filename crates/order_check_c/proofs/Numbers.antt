@@ -3,10 +3,11 @@ use Prim.Native.Nat.{ℕ, _+_}
 use native.Mathlib.Numerals.{add-one}
 use mathlib.Core.Path.{_≡_, ap, ap₂, sym, _∙_}
 use mathlib.Core.List.{List}
+use Rattle.program.specs.Steps.{kindNumber}
 use Rattle.rules.specs.declared.Ending.{Ending}
 use Rattle.verdicts.specs.declared.Report.{Report}
 use Rattle.verdicts.specs.declared.Report.the-variants.{Ended}
-use Rattle.order_check_c.specs.Answer.{kindNumber, eight, endingNumbers, numbersOf}
+use Rattle.order_check_c.specs.Answer.{eight, endingNumbers, numbersOf}
 
 pub witness-numbers : (count steps : ℕ) (e : Ending) {number : ℕ} → number ≡ kindNumber (e .kind)
     → eight 1 0 count steps (e .thread + 1) number (e .location) (e .value) ≡ endingNumbers count steps e

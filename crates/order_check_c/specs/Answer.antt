@@ -3,21 +3,14 @@ use Prim.Native.Nat.{ℕ}
 use mathlib.Core.Path.{_≡_}
 use mathlib.Core.List.{List, [], _∷_}
 use Rattle.program.specs.Program.{Program}
-use Rattle.program.specs.declared.Kind.{Kind}
-use Rattle.program.specs.declared.Kind.the-variants.{Read, Write, Update}
+use Rattle.program.specs.Steps.{kindNumber}
 use Rattle.program.specs.Outcome.{Outcome}
 use Rattle.rules.specs.declared.Ending.{Ending}
-use Rattle.rules.specs.ThreadNumber.{threadNumber}
+use Rattle.program.specs.ThreadNumber.{threadNumber}
 use Rattle.verdicts.specs.Number.{checkNumber}
 use Rattle.verdicts.specs.declared.Report.{Report}
 use Rattle.verdicts.specs.declared.Report.the-variants.{Robust, Ended, Full, Short, Refused}
 use Rattle.verdicts.specs.Checked.{Checked}
-
--- The number of a kind: 1 R, 2 W, 3 M.
-unfoldable pub kindNumber : Kind → ℕ
-kindNumber Read = 1
-kindNumber Write = 2
-kindNumber Update = 3
 
 -- Verdict, number, count, steps, thread, kind, location and value.
 abbrev pub eight : (verdict number count steps thread kind location value : ℕ) → List ℕ

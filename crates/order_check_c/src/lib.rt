@@ -1,24 +1,14 @@
 // The checker for C and Rust: a static library of two functions. order_check.h is its C header.
 use checker::check;
 use checker::check_indexed;
-use program::Kind;
+use program::kind_number;
 use rules::Ending;
 use verdicts::Report;
 ghost use mathlib.Core.Path.{_≡_};
 ghost use lib.ListN.{length};
 ghost use Rattle.program.specs.Format.{readProgram};
 ghost use Rattle.checker.specs.Indexed.{indexAfter};
-ghost use Rattle.order_check_c.specs.Answer.{kindNumber, endingNumbers, numbersOf, Told};
-
-fn kind_number(kind: Kind) -> u64
-    ensures { λ r. ⌜ r ≡ kindNumber kind ⌝ }
-{
-    match kind {
-        Kind::Read => 1,
-        Kind::Write => 2,
-        Kind::Update => 3,
-    }
-}
+ghost use Rattle.order_check_c.specs.Answer.{endingNumbers, numbersOf, Told};
 
 // A report of an ending, which is a witness: NR.
 fn numbers_of_ending(count: usize, steps: usize, ending: Ending) -> [u64; 8]
@@ -31,7 +21,7 @@ fn numbers_of_ending(count: usize, steps: usize, ending: Ending) -> [u64; 8]
         count as u64,
         steps as u64,
         ending.thread as u64 + 1,
-        kind_number(kind),
+        kind_number(kind) as u64,
         ending.location as u64,
         ending.value as u64,
     ]

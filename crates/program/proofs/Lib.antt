@@ -23,3 +23,4 @@ pub mod StartLaws
 pub mod Places
 pub mod Cases
 pub mod Longer
+pub mod StepLaws

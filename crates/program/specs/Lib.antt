@@ -1,5 +1,7 @@
 pub mod Program
 pub mod Thread
+pub mod ThreadNumber
+pub mod Steps
 pub mod Within
 pub mod Outcome
 pub mod Ops

@@ -5,7 +5,7 @@ use mathlib.Core.Path.{_≡_, ap, _∙_}
 use mathlib.Core.List.{List, [], _∷_, _++_}
 use lib.ListN.{length, getD, length-append}
 use Rattle.rules.specs.declared.Ending.{Ending}
-use Rattle.rules.specs.ThreadNumber.{threadNumber}
+use Rattle.program.specs.ThreadNumber.{threadNumber}
 use Rattle.report.specs.Text.{space, newline, decimal, line, letter, stepLines, endingLine}
 use Rattle.report.specs.Text.{markNR, markST, longestLine, longestStep, longestText}
 use Rattle.report.proofs.Decimals.{decimal-length}

@@ -7,7 +7,7 @@ use lib.Dec.{ltb}
 use Rattle.program.specs.declared.Kind.{Kind}
 use Rattle.program.specs.declared.Kind.the-variants.{Read, Write, Update}
 use Rattle.rules.specs.declared.Ending.{Ending}
-use Rattle.rules.specs.ThreadNumber.{threadNumber}
+use Rattle.program.specs.ThreadNumber.{threadNumber}
 use Rattle.verdicts.specs.Number.{checkNumber}
 use Rattle.verdicts.specs.declared.Report.{Report}
 use Rattle.verdicts.specs.declared.Report.the-variants.{Robust, Ended, Full, Short, Refused}
