@@ -1,21 +1,20 @@
 -- What holds of every table that starts with the first place and has children of earlier places after it, so of the
 -- queue and its fronts.
-use Prim.Native.Nat.{ℕ, suc, _≤_, _<_}
+use Prim.Native.Nat.{ℕ, _≤_, _<_}
 use native.Mathlib.Omega.{arith}
 use native.Mathlib.Decide.{decLt}
-use mathlib.Core.Path.{_≡_, refl, sym, ap, _∙_, subst}
+use mathlib.Core.Path.{_≡_, sym, ap, _∙_, subst}
 use mathlib.Core.Logic.{⊎-elim}
 use mathlib.Core.Bool.{Bool}
-use mathlib.Core.List.{List, [], _∷_, _++_, map, reverse, reverse-append, map-append, List·Memᴰ as Member}
+use mathlib.Core.List.{List, [], _∷_, List·Memᴰ as Member}
 use mathlib.Core.List.{List·Memᴰ·not-nil, List·Memᴰ·eq-of-singleton, List·Memᴰ·append-cases}
-use mathlib.Core.Option.{Option, some, Option·some-injective}
+use mathlib.Core.Option.{Option, some}
 use lib.ListN.{length, take, getElem?, length-append}
 use Rattle.lists.proofs.Places.{member-at-place, place-taken}
 use Rattle.lists.proofs.Tests.{not-both}
 use Rattle.numbering.specs.Schedule.{Schedule}
 use Rattle.numbering.specs.Numbering.{Entry}
 use Rattle.numbering.specs.Queue.{first, queue, Steps}
-use Rattle.numbering.specs.Back.{Back, arrived, further}
 use Rattle.numbering.proofs.Extend.{Known, member-is-known}
 use Rattle.numbering.proofs.Turns.{entryKey}
 use Rattle.numbering.proofs.Origins.{Parent, Rooted, along-parents, placed}
@@ -60,47 +59,6 @@ module _ {A : Type 0} (T : ℕ) (start : A) (step : ℕ → A → Option A) (q :
       one-more k x p below t m =
           ⊎-elim (below t) (λ l. subst (λ u. u < T) (sym (List·Memᴰ·eq-of-singleton l)) (p .is-thread))
           (List·Memᴰ·append-cases (p .parent .path) (subst (λ z. Member t (z .path)) (p .child-is) m))
-
-  -- Going back from a place gives its path, the last thread first, the threads numbered from 1.
-  pub goes-back : (k : ℕ) (x : Entry A) → getElem? q k ≡ some x → Back q k (reverse (map suc (x .path)))
-  unfolding first
-  goes-back k x h =
-      along-parents T start step q rooted (λ k x. getElem? q k ≡ some x → Back q k (reverse (map suc (x .path))))
-      (λ e. arrived (first start) e refl)
-      one-further k x h h
-    where
-      reversed : (s : Schedule) (t : ℕ) → reverse (map suc (s ++ t ∷ [])) ≡ suc t ∷ reverse (map suc s)
-      reversed s t = ap reverse (map-append suc s (t ∷ [])) ∙ reverse-append (map suc s) (suc t ∷ [])
-
-      one-further : (k : ℕ) (x : Entry A) (p : Parent T start step q k x)
-          → (getElem? q (p .index) ≡ some (p .parent) → Back q (p .index) (reverse (map suc (p .parent .path))))
-          → getElem? q k ≡ some x → Back q k (reverse (map suc (x .path)))
-      one-further k x p below e =
-          subst (Back q k)
-          (sym (reversed (p .parent .path) (p .thread)) ∙ ap (λ z. reverse (map suc (z .path))) (sym (p .child-is)))
-          (further x e (ap (λ z. z .from) (p .child-is)) (p .earlier) (ap (λ z. z .by) (p .child-is))
-          (below (p .there)))
-
--- What a step back finds.
-module _ {A : Type 0} (q : List (Entry A)) where
-  found-there : (k : ℕ) {x y : Entry A} → getElem? q k ≡ some x → getElem? q k ≡ some y → x ≡ y
-  found-there k {x} {y} h e = Option·some-injective x y (sym h ∙ e)
-
-  pub back-arrived : (k : ℕ) (bs : List ℕ) (x : Entry A) → getElem? q k ≡ some x → x .from ≡ 0 → Back q k bs → bs ≡ []
-  back-arrived k bs x h e (arrived y a z) = refl
-  back-arrived k bs x h e (further y a f lt b r) = absurd (omega (arith, ap (λ z. z .from) (found-there k h a)))
-
-  pub back-further : (k : ℕ) (bs : List ℕ) (x : Entry A) (i : ℕ) → getElem? q k ≡ some x → x .from ≡ suc i → Back q k bs
-      → (rest : List ℕ) × (bs ≡ x .by ∷ rest) × (i < k) × Back q i rest
-  back-further k bs x i h e (arrived y a z) = absurd (omega (arith, ap (λ z. z .from) (found-there k h a)))
-  back-further k bs x i h e (further {i = j} {bs = rest} y a f lt b r) =
-      let same-place : j ≡ i = omega (arith, ap (λ z. z .from) (found-there k h a)) in (
-        rest,
-        ap (λ c. c ∷ rest) (sym b ∙ ap (λ z. z .by) (sym (found-there k h a))),
-        omega arith,
-        subst
-            (λ n. Back q n rest) same-place r,
-      )
 
 -- No two places of the queue have one situation.
 module _ {A : Type 0} {same : A → A → Bool} {T : ℕ} {reached : Schedule → Option A} {start : A}

@@ -2,4 +2,3 @@ pub mod Schedule
 pub mod Numbering
 pub mod Verdict
 pub mod Queue
-pub mod Back

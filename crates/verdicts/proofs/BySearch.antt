@@ -1,37 +1,59 @@
 -- Answer and trace by the search, and the law that they are those by graphs and schedules.
-use Prim.Native.Nat.{ℕ}
-use mathlib.Core.Path.{_≡_, refl, ap}
-use mathlib.Core.List.{List}
+use Prim.Native.Nat.{ℕ, _*_}
+use mathlib.Core.Path.{_≡_, refl, ap, _∙_}
+use mathlib.Core.Bool.{cond}
+use mathlib.Core.List.{List, flatMap}
+use lib.Dec.{leb}
 use lib.ListN.{length}
 use Rattle.program.specs.Program.{Program}
 use Rattle.program.specs.Outcome.{Outcome, refused, accepted}
 use Rattle.program.specs.Format.{readProgram}
+use Rattle.program.specs.Within.{Valid}
+use Rattle.program.specs.Steps.{StepRecord, stepSize, kindNumber, labelBytes, bytesOfSteps}
 use Rattle.rules.specs.Situation.{Situation}
 use Rattle.rules.specs.declared.Ending.{Ending}
-use Rattle.rules.proofs.Searched.{searchedOn}
+use Rattle.rules.proofs.Searched.{searchedOn, shownOn}
+use Rattle.situations.specs.Schedule.{recordsBy}
 use Rattle.numbering.specs.Numbering.{Entry}
-use Rattle.numbering.specs.Verdict.{Verdict}
+use Rattle.numbering.specs.Verdict as numbering
+use Rattle.numbering.specs.Verdict.{Verdict, found, full, closed}
 use Rattle.place_bytes.specs.Layout.{placeSize}
-use Rattle.verdicts.proofs.Computed.{readOn, accepted-valid, by-search}
-use Rattle.verdicts.specs.Answer.{Answer, turnedDown, placesIn, reported, answerTo, tracedBy, traceAfter}
+use Rattle.verdicts.proofs.Computed.{readOn, accepted-valid, by-search, shown-by-steps}
+use Rattle.verdicts.proofs.Promises.{found-reaches}
+use Rattle.verdicts.specs.Search.{verdictOf}
+use Rattle.verdicts.specs.Answer.{Answer, turnedDown, placesIn, reported, answerTo, written, tracedBy, traceAfter}
 
 -- The answer, and the trace at exit.
 pub record Result : Type 0 where
   pub answer : Answer
   pub trace : List ℕ
 
--- What a verdict comes to, where that trace is lent.
-abbrev handedBack : (trace : List ℕ) → Verdict (Entry Situation) Ending → Result
-handedBack trace v =
-    record { answer = reported (length (v .places)) (length trace) (v .outcome); trace = tracedBy (v .outcome) trace }
+-- What a verdict comes to, where that trace is lent and the steps of a schedule show that.
+abbrev handedBack : (shown : List ℕ → List StepRecord) (trace : List ℕ) → Verdict (Entry Situation) Ending → Result
+handedBack shown trace v =
+    record {
+      answer = reported (length (v .places)) (length trace) (v .outcome);
+      trace = tracedBy shown (v .outcome) trace;
+    }
+
+-- Where a witness was found, the steps to it show what single steps on situations show.
+same-trace : {p : Program} → Valid p → (N : ℕ) (trace : List ℕ) (o : numbering.Outcome (Entry Situation) Ending)
+    → verdictOf p N .outcome ≡ o → tracedBy (recordsBy p) o trace ≡ tracedBy (shownOn p) o trace
+unfolding tracedBy
+same-trace valid N trace closed e = refl
+same-trace valid N trace full e = refl
+same-trace valid N trace (found x f) e =
+    ap (λ (records : List StepRecord).
+    cond (leb (stepSize * length (x .path)) (length trace)) (written (bytesOfSteps records) trace) trace)
+    (shown-by-steps valid (x .path) (x .key) (found-reaches valid N x f e))
 
 unfoldable searched : Outcome Program → (tableLength : ℕ) (trace : List ℕ) → Result
 searched (refused number) tableLength trace = record { answer = turnedDown number; trace = trace }
-searched (accepted p) tableLength trace = handedBack trace (searchedOn p (placesIn p tableLength))
+searched (accepted p) tableLength trace = handedBack (shownOn p) trace (searchedOn p (placesIn p tableLength))
 
 -- Opened, it computes.
 unfoldable pub resultBySearch : (bytes : List ℕ) (tableLength : ℕ) (trace : List ℕ) → Result
-unfolding searched readOn searchedOn placesIn placeSize reported tracedBy
+unfolding searched readOn searchedOn placesIn placeSize reported tracedBy shownOn kindNumber labelBytes flatMap
 resultBySearch bytes = searched (readOn bytes)
 
 abbrev resultOf : Outcome Program → (tableLength : ℕ) (trace : List ℕ) → Result
@@ -43,7 +65,13 @@ outcome-by-search : (bytes : List ℕ) (o : Outcome Program) → readProgram byt
 unfolding searched answerTo traceAfter
 outcome-by-search bytes (refused number) e tableLength trace = refl
 outcome-by-search bytes (accepted p) e tableLength trace =
-    ap (handedBack trace) (by-search (accepted-valid bytes e) (placesIn p tableLength))
+    let valid = accepted-valid bytes e in
+    let N = placesIn p tableLength in
+    let v = verdictOf p N in
+    ap
+    (λ (after : List ℕ). record { answer = reported (length (v .places)) (length trace) (v .outcome); trace = after })
+    (same-trace valid N trace (v .outcome) refl)
+    ∙ ap (handedBack (shownOn p) trace) (by-search valid N)
 
 pub result-by-search : (bytes : List ℕ) (tableLength : ℕ) (trace : List ℕ)
     → resultOf (readProgram bytes) tableLength trace ≡ resultBySearch bytes tableLength trace

@@ -1,4 +1,5 @@
 pub mod SearchLaws
+pub mod StepRecords
 pub mod Promises
 pub mod Computed
 pub mod Cases

@@ -1,4 +1,5 @@
--- Document 01, section "Cases, marked * where proved": the starred cases as entries of one table.
+-- Document 01, section "Cases, marked * where proved", with the traces of document 02, Point 1: the starred cases as
+-- entries of one table.
 use Prim.Native.Nat.{ℕ, _-_}
 use mathlib.Core.Path.{_≡_}
 use mathlib.Core.List.{List, [], _∷_, _++_}
@@ -56,9 +57,22 @@ x = 0
 abbrev y : ℕ
 y = 1
 
+-- "The trace uses four bytes a step, in that order, with kinds 0 to 3 for L, R, W, M."
+abbrev step : (thread kind location value : ℕ) → List ℕ
+step thread kind location value = thread ∷ kind ∷ location ∷ value ∷ []
+
+abbrev R : ℕ
+R = 1
+
+abbrev W : ℕ
+W = 2
+
 -- "SB: x := 1; read y ‖ y := 1; read x; K = 2."
 abbrev sb : List ℕ
 sb = header 2 2 2 ++ thread 2 ++ write x 1 ++ read 0 y ++ thread 2 ++ write y 1 ++ read 0 x
+
+abbrev sbSteps : List ℕ
+sbSteps = step 1 W x 1 ++ step 1 R y 0 ++ step 2 W y 1
 
 -- "MP: x := 1; y := 1 ‖ read y; read x (two registers)."
 abbrev mp : List ℕ
@@ -70,6 +84,9 @@ twoPlusTwoW =
     header 2 2 3
     ++ thread 3 ++ write x 1 ++ write y 2 ++ read 0 y
     ++ thread 3 ++ write y 1 ++ write x 2 ++ read 0 x
+
+abbrev twoPlusTwoWSteps : List ℕ
+twoPlusTwoWSteps = step 1 W x 1 ++ step 1 W y 2 ++ step 2 W y 1
 
 -- "Barrier: x := 1; wait y = 1 ‖ y := 1; wait x = 1."
 abbrev barrier : List ℕ
@@ -83,9 +100,16 @@ nothing = header 1 1 2 ++ thread 0
 abbrev jumping : (target : ℕ) → List ℕ
 jumping target = header 1 1 2 ++ thread 1 ++ jump target 1
 
--- Five bytes of trace are lent where a case does not say how many: two more than the steps that are found.
+-- Lent bytes, and as many as three steps need.
+abbrev lentEleven : List ℕ
+lentEleven = 9 ∷ 8 ∷ 7 ∷ 6 ∷ 5 ∷ 4 ∷ 3 ∷ 2 ∷ 1 ∷ 9 ∷ 8 ∷ []
+
+abbrev lentTwelve : List ℕ
+lentTwelve = lentEleven ++ 7 ∷ []
+
+-- Fourteen bytes of trace are lent where a case does not say how many: two more than for the steps that are found.
 abbrev lent : List ℕ
-lent = 9 ∷ 8 ∷ 7 ∷ 6 ∷ 5 ∷ []
+lent = lentTwelve ++ 6 ∷ 5 ∷ []
 
 -- A case in which the trace stays.
 abbrev staying : (bytes : List ℕ) (tableLength : ℕ) (trace : List ℕ) → Answer → Case
@@ -100,22 +124,24 @@ getting bytes tableLength trace answer traceAtExit =
 -- "The place size for T = L = 2 is 59", and for T = L = 1 it is 26.
 unfoldable pub cases : List Case
 cases =
-    -- "SB .. 413 lent bytes: NR, count 7." "NR 7 3 2 R 0 0", "ST 1", "ST 1", "ST 2". "412: 11, count 6."
-    getting sb 413 lent (notRobust 7 3 2 Read x 0) (1 ∷ 1 ∷ 2 ∷ 6 ∷ 5 ∷ [])
+    -- "SB .. 413 lent bytes: NR, count 7." "NR 7 3 2 R 0 0", with the steps "ST 1 W 0 1", "ST 1 R 1 0", "ST 2 W 1 1".
+    -- "412: 11, count 6."
+    getting sb 413 lent (notRobust 7 3 2 Read x 0) (sbSteps ++ 6 ∷ 5 ∷ [])
     ∷ staying sb 412 lent (placesFull 6)
     -- "MP .. 767: RB 13." "766: 11, count 12."
     ∷ staying mp 767 lent (robust 13)
     ∷ staying mp 766 lent (placesFull 12)
-    -- "2+2W .. NR 8 3 2 W 0 0 with steps 1, 1, 2.": eight places
-    ∷ getting twoPlusTwoW 472 lent (notRobust 8 3 2 Write x 0) (1 ∷ 1 ∷ 2 ∷ 6 ∷ 5 ∷ [])
+    -- "2+2W .. NR 8 3 2 W 0 0 with steps 1, 1, 2.": eight places; "1 W 0 1", "1 W 1 2", "2 W 1 1"
+    ∷ getting twoPlusTwoW 472 lent (notRobust 8 3 2 Write x 0) (twoPlusTwoWSteps ++ 6 ∷ 5 ∷ [])
     -- "Barrier .. RB 7.": seven places
     ∷ staying barrier 413 lent (robust 7)
     -- "PR 1 1 2, TH 0. 26 bytes: RB 1." "25: 11, count 0."
     ∷ staying nothing 26 lent (robust 1)
     ∷ staying nothing 25 lent (placesFull 0)
-    -- "SB with a trace of 2: 10." The wanted length lies between 3 steps and 7 places. "With 3: NR."
-    ∷ staying sb 413 (9 ∷ 8 ∷ []) (traceShort 3 7)
-    ∷ getting sb 413 (9 ∷ 8 ∷ 7 ∷ []) (notRobust 7 3 2 Read x 0) (1 ∷ 1 ∷ 2 ∷ [])
+    -- "Check 10 then wants four bytes for each step (12 for SB)": with a trace of 11, 10. The wanted length lies between
+    -- 4 × 3 steps and 4 × 7 places. With 12: NR.
+    ∷ staying sb 413 lentEleven (traceShort 3 7)
+    ∷ getting sb 413 lentTwelve (notRobust 7 3 2 Read x 0) sbSteps
     -- "Empty input: 1." "K = 1: 2." "One byte after the last record: 9."
     ∷ staying [] 413 lent (turnedDown 1)
     ∷ staying (header 1 1 1 ++ thread 0) 413 lent (turnedDown 2)
