@@ -31,7 +31,7 @@ abbrev pub letters : List ℕ
 letters = 76 ∷ 82 ∷ 87 ∷ 77 ∷ []
 
 -- The letter of a kind by its number. A text asks nothing of its caller, so any other byte has a question mark; no trace
--- of ours has one.
+-- of ours has one (the theorem lines-of-steps).
 unfoldable pub letterOf : (kind : ℕ) → ℕ
 letterOf kind = getD letters kind 63
 
