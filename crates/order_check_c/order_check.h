@@ -30,8 +30,9 @@ enum {
     /* How many places of the table are written, for ORDER_RB, ORDER_NR and ORDER_FU. */
     ORDER_COUNT = 2,
 
-    /* For ORDER_NR how many steps the run in the trace has; for ORDER_TRACE_SHORT a length of the trace that suffices,
-       at least the number of steps and at most the number of places written. */
+    /* For ORDER_NR how many steps, not bytes, the run in the trace has; for ORDER_TRACE_SHORT a length of the trace, in
+       bytes, that suffices, at least four times the number of steps and at most four times the number of places
+       written. */
     ORDER_STEPS = 3,
 
     /* For ORDER_NR, as all that follows: the lowest thread, from 1, that has a witness after these steps. A witness is
@@ -39,7 +40,7 @@ enum {
        newest comes in SC order before some event of that thread. */
     ORDER_THREAD = 4,
 
-    /* The kind of its access: one of the three below. */
+    /* The kind of its access: ORDER_READ, ORDER_WRITE or ORDER_UPDATE. */
     ORDER_KIND = 5,
 
     /* The location of its access, from 0. */
@@ -80,11 +81,30 @@ enum {
     ORDER_TABLE_FULL = 11
 };
 
-/* The kinds of an access. */
+/* The kinds of an access, and of a step. */
 enum {
+    ORDER_LOCAL = 0,  /* L, a local line; only in a trace */
     ORDER_READ = 1,   /* R; a CAS that fails is one */
     ORDER_WRITE = 2,  /* W */
     ORDER_UPDATE = 3  /* M, a read-modify-write */
+};
+
+/* The bytes of a step in the trace, by their index. */
+enum {
+    /* The thread that takes the step, from 1. */
+    ORDER_STEP_THREAD = 0,
+
+    /* ORDER_LOCAL, ORDER_READ, ORDER_WRITE or ORDER_UPDATE. */
+    ORDER_STEP_KIND = 1,
+
+    /* The location of its access, from 0; 0 for ORDER_LOCAL. */
+    ORDER_STEP_LOCATION = 2,
+
+    /* For ORDER_READ the value read, for ORDER_WRITE and ORDER_UPDATE the value written; 0 for ORDER_LOCAL. */
+    ORDER_STEP_VALUE = 3,
+
+    /* How many bytes a step has. */
+    ORDER_STEP_BYTES = 4
 };
 
 /*
@@ -97,8 +117,8 @@ enum {
  *     9 + T * (6 + 4 * L) + L * (3 + 4 * L) bytes. Bytes past the places written stay as they are, and so do all where
  *     the bytes are no program.
  *
- * trace, trace_len: for ORDER_NR its first ORDER_STEPS bytes get the threads, from 1, whose turns are the steps of the
- *     run; its other bytes stay as they are, and for every other verdict all of them do.
+ * trace, trace_len: for ORDER_NR its first ORDER_STEP_BYTES * answer[ORDER_STEPS] bytes get the steps of the run, one
+ *     after the other; its other bytes stay as they are, and for every other verdict all of them do.
  *
  * answer: gets ORDER_FIELDS numbers.
  *

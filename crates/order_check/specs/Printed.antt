@@ -1,4 +1,4 @@
--- What is printed: document 01, "The printing program".
+-- What is printed: document 01, "The printing program", with document 02, Point 1.
 use Prim.Native.Nat.{ℕ, _+_, _*_, _≤_, _<_}
 use mathlib.Core.Path.{_≡_}
 use mathlib.Core.List.{List}
@@ -19,9 +19,10 @@ pub record Sizes (input kept table trace buffer : ℕ) : Type 0 where
   -- The input's buffer holds more than the longest program, so that a longer input is judged by its front.
   pub input-holds : longestProgram < input
   pub kept-there : kept ≤ input
-  -- "with a table of 49,152 bytes and a trace of 4,096"
+  -- "with a table of 49,152 bytes"
   pub table-is : table ≡ 49152
-  pub trace-is : trace ≡ 4096
+  -- "The printing program's trace grows to 8,192 bytes."
+  pub trace-is : trace ≡ 8192
   -- The longest text fits.
   pub text-fits : longestText trace ≤ buffer
 
@@ -29,7 +30,7 @@ pub record Sizes (input kept table trace buffer : ℕ) : Type 0 where
 pub record Printed (input lentTable table lentTrace trace text : List ℕ) : Type 0 where
   pub report : Report
   pub checked : Checked (readProgram input) lentTable table lentTrace trace report
-  -- The trace always has a byte for each step.
+  -- The trace always has four bytes for each step.
   pub never-short : (wanted : ℕ) → report ≡ Short wanted → ⊥
   -- The text is whole.
   pub whole : text ≡ textOf report trace

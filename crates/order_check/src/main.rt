@@ -3,6 +3,7 @@ use checker::check_indexed;
 use libc::STDERR_FILENO;
 use libc::STDIN_FILENO;
 use libc::STDOUT_FILENO;
+use program::STEP_SIZE;
 use report::text;
 ghost use mathlib.Core.Path.{_≡_};
 ghost use Prim.Native.Nat.{_≤_};
@@ -10,16 +11,17 @@ ghost use lib.ListN.{length, take};
 ghost use Rattle.io.specs.Counts.{Counts};
 ghost use Rattle.order_check.specs.Printed.{Sizes, PrintedFor};
 
-// "a table of 49,152 bytes and a trace of 4,096": the trace is an `io::buffer`, and so is what is kept of standard input.
+// "a table of 49,152 bytes"
 const TABLE: usize = 49152;
 
-const TRACE: usize = 4096;
+// "The printing program's trace grows to 8,192 bytes."
+const TRACE: usize = 8192;
 
 // An index that has room for all places of the table: at most 1,890, of 26 bytes each, in half of its slots.
 const INDEX: usize = 4096;
 
-// Room for the longest text: a line of at most 76 bytes, and 7 for each byte of the trace.
-const TEXT: usize = 76 + 7 * TRACE;
+// Room for the longest text: a line of at most 76 bytes, and one of at most 17 for each step that the trace can have.
+const TEXT: usize = 76 + 17 * (TRACE / STEP_SIZE);
 
 // What was kept of standard input, and whether its end was reached.
 pub struct Input {
@@ -33,6 +35,12 @@ fn table() -> [u8; TABLE]
     [0; TABLE]
 }
 
+fn trace_buffer() -> [u8; TRACE]
+    ensures { λ r. ⌜ 8192 ≡ length r ⌝ }
+{
+    [0; TRACE]
+}
+
 fn index() -> [u64; INDEX]
     ensures { λ r. ⌜ 4096 ≡ length r ⌝ }
 {
@@ -40,7 +48,7 @@ fn index() -> [u64; INDEX]
 }
 
 fn text_buffer() -> [u8; TEXT]
-    ensures { λ r. ⌜ 28748 ≡ length r ⌝ }
+    ensures { λ r. ⌜ 34892 ≡ length r ⌝ }
 {
     [0; TEXT]
 }
@@ -112,7 +120,7 @@ fn main() {
         return;
     }
     let mut places = table();
-    let mut trace = io::buffer();
+    let mut trace = trace_buffer();
     let mut slots = index();
     let mut lines = text_buffer();
     let length = print(

@@ -1,15 +1,16 @@
 -- How long a printed text can be, for a buffer that is never too short.
-use Prim.Native.Nat.{ℕ, zero, suc, _+_, _*_, _^_, _≤_, _<_}
+use Prim.Native.Nat.{ℕ, zero, suc, _+_, _*_, _/_, _^_, _≤_, _<_}
 use native.Mathlib.Omega.{arith}
 use mathlib.Core.Path.{_≡_, ap, _∙_}
 use mathlib.Core.List.{List, [], _∷_, _++_}
 use lib.ListN.{length, getD, length-append}
 use Rattle.rules.specs.declared.Ending.{Ending}
 use Rattle.program.specs.ThreadNumber.{threadNumber}
-use Rattle.report.specs.Text.{space, newline, decimal, line, letter, stepLines, endingLine}
+use Rattle.program.specs.Steps.{stepSize, kindNumber}
+use Rattle.report.specs.Text.{space, newline, decimal, line, letterOf, stepLine, stepLines, endingLine}
 use Rattle.report.specs.Text.{markNR, markST, longestLine, longestStep, longestText}
 use Rattle.report.proofs.Decimals.{decimal-length}
-use Rattle.report.proofs.LineLaws.{line-of-two, line-of-last-three, line-of-first-four}
+use Rattle.report.proofs.LineLaws.{line-of-two, line-of-last-three, line-of-first-two, line-of-first-four}
 
 word-length : (n : ℕ) → n < 2 ^ 64 → length (decimal n) ≤ 20
 word-length n h = decimal-length 19 n (omega arith)
@@ -46,18 +47,35 @@ length-of-first-four a b d e f others =
       length-append a (space ∷ b),
     )
 
+step-is-short : (t k l v : ℕ) → t < 2 ^ 8 → l < 2 ^ 8 → v < 2 ^ 8 → length (stepLine t k l v) ≤ longestStep
+unfolding stepLine
+step-is-short t k l v small-thread small-location small-value =
+    let access = line ((letterOf k ∷ []) ∷ decimal l ∷ decimal v ∷ []) in
+    omega (
+      arith,
+      ap length (line-of-first-two markST (decimal t) (letterOf k ∷ []) (decimal l ∷ decimal v ∷ [])),
+      length-append (markST ++ (space ∷ decimal t)) (space ∷ access),
+      length-append markST (space ∷ decimal t),
+      length-of-last-three (letterOf k) (decimal l) (decimal v),
+      byte-length t (omega arith),
+      byte-length l (omega arith),
+      byte-length v (omega arith),
+    )
+
 steps-are-short : (steps : ℕ) (trace : List ℕ) → ((j : ℕ) → getD trace j 0 < 2 ^ 8)
-    → length (stepLines steps trace) ≤ longestStep * length trace
+    → length (stepLines steps trace) ≤ longestStep * (length trace / stepSize)
 unfolding stepLines
 steps-are-short zero trace small = omega arith
 steps-are-short (suc steps) [] small = omega arith
-steps-are-short (suc steps) (t ∷ trace) small =
+steps-are-short (suc steps) (t ∷ []) small = omega arith
+steps-are-short (suc steps) (t ∷ k ∷ []) small = omega arith
+steps-are-short (suc steps) (t ∷ k ∷ l ∷ []) small = omega arith
+steps-are-short (suc steps) (t ∷ k ∷ l ∷ v ∷ trace) small =
     omega (
       arith,
-      length-append (line (markST ∷ decimal t ∷ [])) (stepLines steps trace),
-      length-of-two markST (decimal t),
-      byte-length t (omega (arith, small 0)),
-      steps-are-short steps trace (λ j. small (suc j)),
+      length-append (stepLine t k l v) (stepLines steps trace),
+      step-is-short t k l v (small 0) (small 2) (small 3),
+      steps-are-short steps trace (λ j. small (suc (suc (suc (suc j))))),
     )
 
 -- A text of one line, a mark and a number.
@@ -72,8 +90,8 @@ ending-is-short count steps e small-count small-steps small-thread small-locatio
     omega (
       arith,
       length-of-first-four markNR (decimal count) (decimal steps) (decimal (threadNumber (e .thread)))
-          (letter (e .kind) ∷ []) (decimal (e .location) ∷ decimal (e .value) ∷ []),
-      length-of-last-three (letter (e .kind)) (decimal (e .location)) (decimal (e .value)),
+          (letterOf (kindNumber (e .kind)) ∷ []) (decimal (e .location) ∷ decimal (e .value) ∷ []),
+      length-of-last-three (letterOf (kindNumber (e .kind))) (decimal (e .location)) (decimal (e .value)),
       word-length count small-count,
       word-length steps small-steps,
       byte-length (threadNumber (e .thread)) (omega arith),

@@ -11,7 +11,8 @@ use Rattle.program.specs.declared.Kind.the-variants.{Read, Write, Update}
 use Rattle.verdicts.specs.declared.Report.{Report}
 use Rattle.verdicts.specs.declared.Report.the-variants.{Robust, Ended, Full, Short, Refused}
 use Rattle.verdicts.specs.Number.{checkNumber}
-use Rattle.report.specs.Text.{decimalIn, decimal, line, letter, stepLines, endingLine, textOf}
+use Rattle.program.specs.Steps.{kindNumber}
+use Rattle.report.specs.Text.{decimalIn, decimal, line, letterOf, stepLine, stepLines, endingLine, textOf}
 
 -- A report, the trace that it comes with, and what is printed.
 record Example : Type 0 where
@@ -29,10 +30,14 @@ example report trace text = record { report = report; trace = trace; text = text
 
 abbrev examples : List Example
 examples =
-    -- "For SB below the whole output is"
-    example (notRobust 7 3 2 Read 0 0) (1 ∷ 1 ∷ 2 ∷ []) "NR 7 3 2 R 0 0\nST 1\nST 1\nST 2\n"
+    -- "For SB below the whole output is": with the ST lines of Point 1
+    example (notRobust 7 3 2 Read 0 0) (1 ∷ 2 ∷ 0 ∷ 1 ∷ 1 ∷ 1 ∷ 1 ∷ 0 ∷ 2 ∷ 2 ∷ 1 ∷ 1 ∷ [])
+    "NR 7 3 2 R 0 0\nST 1 W 0 1\nST 1 R 1 0\nST 2 W 1 1\n"
     -- "2+2W .. NR 8 3 2 W 0 0 with steps 1, 1, 2."
-    ∷ example (notRobust 8 3 2 Write 0 0) (1 ∷ 1 ∷ 2 ∷ []) "NR 8 3 2 W 0 0\nST 1\nST 1\nST 2\n"
+    ∷ example (notRobust 8 3 2 Write 0 0) (1 ∷ 2 ∷ 0 ∷ 1 ∷ 1 ∷ 2 ∷ 1 ∷ 2 ∷ 2 ∷ 2 ∷ 1 ∷ 1 ∷ [])
+    "NR 8 3 2 W 0 0\nST 1 W 0 1\nST 1 W 1 2\nST 2 W 1 1\n"
+    -- "L 0 0 for a local line"
+    ∷ example (notRobust 3 2 2 Read 0 0) (2 ∷ 0 ∷ 0 ∷ 0 ∷ 2 ∷ 3 ∷ 0 ∷ 1 ∷ []) "NR 3 2 2 R 0 0\nST 2 L 0 0\nST 2 M 0 1\n"
     -- "MP .. 767: RB 13. 766: 11, count 12."
     ∷ example (Robust 13) [] "RB 13\n"
     ∷ example (Full 12) [] "FU 12\n"
@@ -42,10 +47,14 @@ examples =
     -- "One byte after the last record: 9."
     ∷ example (Refused 9) [] "NO 9\n"
     -- "SB with a trace of 2: 10."
-    ∷ example (Short 3) (0 ∷ 0 ∷ []) "NO 10\n"
+    ∷ example (Short 12) (0 ∷ 0 ∷ []) "NO 10\n"
     -- digits of every kind, an update, and a trace that is longer than the run
-    ∷ example (notRobust 1005 2 8 Update 7 15) (8 ∷ 1 ∷ 250 ∷ []) "NR 1005 2 8 M 7 15\nST 8\nST 1\n"
+    ∷ example (notRobust 1005 1 8 Update 7 15) (8 ∷ 3 ∷ 7 ∷ 15 ∷ 1 ∷ 2 ∷ 0 ∷ 250 ∷ [])
+    "NR 1005 1 8 M 7 15\nST 8 M 7 15\n"
     ∷ example (Robust 2346789) (1 ∷ []) "RB 2346789\n"
+    -- a trace that ends inside a step, and a kind that no trace of ours has
+    ∷ example (notRobust 7 3 2 Read 0 0) (1 ∷ 2 ∷ 0 ∷ 1 ∷ 1 ∷ 1 ∷ 1 ∷ []) "NR 7 3 2 R 0 0\nST 1 W 0 1\n"
+    ∷ example (notRobust 7 1 2 Read 0 0) (1 ∷ 4 ∷ 0 ∷ 255 ∷ []) "NR 7 1 2 R 0 0\nST 1 ? 0 255\n"
     ∷ []
 
 -- The bytes are those of the text.
@@ -60,5 +69,5 @@ passes [] = true
 passes (e ∷ es) = spells (e .text) (textOf (e .report) (e .trace)) && passes es
 
 pub every-example : passes examples ≡ true
-unfolding textOf endingLine checkNumber line stepLines letter decimal decimalIn
+unfolding textOf endingLine checkNumber line stepLine stepLines letterOf kindNumber decimal decimalIn
 every-example = refl

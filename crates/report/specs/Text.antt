@@ -1,13 +1,13 @@
--- What is printed for a report: document 01, "The printing program". A byte is its number in ASCII.
+-- What is printed for a report: document 01, "The printing program", with the ST lines of document 02, Point 1. A byte is
+-- its number in ASCII.
 use Prim.Native.Nat.{ℕ, zero, suc, _+_, _*_, _/_, _%_}
 use mathlib.Core.Bool.{cond}
 use mathlib.Core.List.{List, [], _∷_, _++_}
-use lib.ListN.{length, take, drop}
+use lib.ListN.{length, getD, take, drop}
 use lib.Dec.{ltb}
-use Rattle.program.specs.declared.Kind.{Kind}
-use Rattle.program.specs.declared.Kind.the-variants.{Read, Write, Update}
 use Rattle.rules.specs.declared.Ending.{Ending}
 use Rattle.program.specs.ThreadNumber.{threadNumber}
+use Rattle.program.specs.Steps.{stepSize, kindNumber}
 use Rattle.verdicts.specs.Number.{checkNumber}
 use Rattle.verdicts.specs.declared.Report.{Report}
 use Rattle.verdicts.specs.declared.Report.the-variants.{Robust, Ended, Full, Short, Refused}
@@ -26,11 +26,14 @@ decimalIn (suc most) n =
 unfoldable pub decimal : ℕ → List ℕ
 decimal n = decimalIn (suc n) n
 
--- "kind (R, W or M for read-modify-write)"
-unfoldable pub letter : Kind → ℕ
-letter Read = 82
-letter Write = 87
-letter Update = 77
+-- "kinds 0 to 3 for L, R, W, M"
+abbrev pub letters : List ℕ
+letters = 76 ∷ 82 ∷ 87 ∷ 77 ∷ []
+
+-- The letter of a kind by its number. A text asks nothing of its caller, so any other byte has a question mark; no trace
+-- of ours has one (the theorem lines-of-steps).
+unfoldable pub letterOf : (kind : ℕ) → ℕ
+letterOf kind = getD letters kind 63
 
 abbrev pub space : ℕ
 space = 32
@@ -60,13 +63,23 @@ markNR = 78 ∷ 82 ∷ []
 abbrev pub markST : List ℕ
 markST = 83 ∷ 84 ∷ []
 
--- "one ST line with the thread for each step": of so many steps, those that are in the trace, "a byte a step".
+-- "An ST line becomes thread, kind, location, value"
+unfoldable pub stepLine : (thread kind location value : ℕ) → List ℕ
+stepLine thread kind location value =
+    line (markST ∷ decimal thread ∷ (letterOf kind ∷ []) ∷ decimal location ∷ decimal value ∷ [])
+
+-- "one ST line .. for each step": of so many steps, those that are in the trace, "four bytes a step, in that order". Bytes
+-- at its end that make no whole step have no line.
 unfoldable pub stepLines : (steps : ℕ) → (trace : List ℕ) → List ℕ
 stepLines zero trace = []
 stepLines (suc steps) [] = []
-stepLines (suc steps) (thread ∷ trace) = line (markST ∷ decimal thread ∷ []) ++ stepLines steps trace
+stepLines (suc steps) (thread ∷ []) = []
+stepLines (suc steps) (thread ∷ kind ∷ []) = []
+stepLines (suc steps) (thread ∷ kind ∷ location ∷ []) = []
+stepLines (suc steps) (thread ∷ kind ∷ location ∷ value ∷ trace) =
+    stepLine thread kind location value ++ stepLines steps trace
 
--- "NR, count, number of steps, thread, kind .., location and stale value"
+-- "NR, count, number of steps, thread, kind (R, W or M for read-modify-write), location and stale value"
 unfoldable pub endingLine : (count steps : ℕ) → Ending → List ℕ
 endingLine count steps e =
     line
@@ -74,13 +87,13 @@ endingLine count steps e =
     ∷ decimal count
     ∷ decimal steps
     ∷ decimal (threadNumber (e .thread))
-    ∷ (letter (e .kind) ∷ [])
+    ∷ (letterOf (kindNumber (e .kind)) ∷ [])
     ∷ decimal (e .location)
     ∷ decimal (e .value)
     ∷ [])
 
 -- "RB and the count; FU and the count; NO and the number; or NR, count, number of steps, thread, kind .., location and
--- stale value, then one ST line with the thread for each step."
+-- stale value, then one ST line .. for each step."
 unfoldable pub textOf : Report → (trace : List ℕ) → List ℕ
 textOf (Robust count) trace = line (markRB ∷ decimal count ∷ [])
 textOf (Full count) trace = line (markFU ∷ decimal count ∷ [])
@@ -93,13 +106,13 @@ textOf (Ended count steps e) trace = endingLine count steps e ++ stepLines steps
 abbrev pub longestLine : ℕ
 longestLine = 2 + 3 * 20 + 1 + 2 * 3 + 6 + 1
 
--- The longest line of a step: ST, a space, a byte of up to 3 digits and a newline.
+-- The longest line of a step: ST, three numbers of up to 3 digits, a letter, four spaces and a newline.
 abbrev pub longestStep : ℕ
-longestStep = 2 + 1 + 3 + 1
+longestStep = 2 + 3 * 3 + 1 + 4 + 1
 
 -- A text is no longer than this, with a trace of that length.
 abbrev pub longestText : (traceLength : ℕ) → ℕ
-longestText traceLength = longestLine + longestStep * traceLength
+longestText traceLength = longestLine + longestStep * (traceLength / stepSize)
 
 -- A buffer in which a text has been laid: the text as far as the buffer reaches, then the other bytes as they were.
 abbrev pub laid : (text buffer : List ℕ) → List ℕ

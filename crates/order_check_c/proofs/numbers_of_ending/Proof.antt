@@ -13,4 +13,5 @@ returns c =
 pub numbers-of-ending-spec : {M : Type 1} → statement M
 numbers-of-ending-spec =
     tie.close
-    (tie.spec (λ c. search needs) (λ c. search needs) (λ c κs. search needs) (λ c. search needs) returns)
+    (tie.spec (λ c. search needs) (λ c. search needs) (λ c κs. search needs) (λ c. search needs) (λ c. search needs)
+    returns)

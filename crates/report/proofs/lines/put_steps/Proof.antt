@@ -22,7 +22,7 @@ abbrev μ-loop : tie.MeasureT-loop
 loop-again : tie.Need-loop-again Inv-loop μ-loop
 loop-again c =
     let put = c .before .before .put-step .ensures in
-    let turn = c .before .before .before .before .before in
+    let turn = c .before .before .before .before .before .before .before .before in
     let l = turn .before .before .loop in
     let a = turn .before .before .before .before .before .args in
     (search needs, step-put (now (a .trace)) (l .inv .1) (ltb-true _ _ (turn .if1 .taken)) put)
@@ -43,6 +43,9 @@ returns-2 c =
 pub put-steps-spec : {M : Type 1} → statement M
 put-steps-spec =
     tie.close
-    (tie.spec Inv-loop μ-loop (λ c. (search needs, no-steps-put _)) (λ c. search needs) (λ c κs. search needs)
-    (λ c. search needs) (λ c. search needs) loop-again (λ c. put-same-length (c .before .before .loop .inv .1))
-    returns (λ c. put-same-length (c .before .loop .inv .1)) returns-2)
+    (tie.spec Inv-loop μ-loop (λ c. (search needs, no-steps-put _)) (λ c. omega (arith, ltb-true))
+    (λ c. omega (arith, ltb-true)) (λ c. omega (arith, ltb-true)) (λ c. omega (arith, ltb-true))
+    (λ c. omega (arith, ltb-true)) (λ c. omega (arith, ltb-true)) (λ c. omega (arith, ltb-true))
+    (λ c. omega (arith, ltb-true)) (λ c κs. search needs) (λ c. search needs) (λ c. search needs) loop-again
+    (λ c. put-same-length (c .before .before .loop .inv .1)) returns
+    (λ c. put-same-length (c .before .loop .inv .1)) returns-2)
