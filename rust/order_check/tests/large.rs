@@ -19,7 +19,7 @@ fn printed(arguments: &[&str], input: &[u8]) -> String {
 
 #[test]
 fn prints_the_lines_of_document_01() {
-    assert_eq!(printed(&["413"], SB), "NR 7 3 2 R 0 0\nST 1\nST 1\nST 2\n");
+    assert_eq!(printed(&["413"], SB), "NR 7 3 2 R 0 0\nST 1 W 0 1\nST 1 R 1 0\nST 2 W 1 1\n");
     assert_eq!(printed(&["412"], SB), "FU 6\n");
     assert_eq!(printed(&["1000000"], b"PR\x01\x01\x02TH\x00"), "RB 1\n");
     assert_eq!(printed(&["0"], b""), "NO 1\n");
