@@ -45,9 +45,11 @@ fn every_model_gets_its_verdict_and_readme_says_so() {
 }
 
 #[test]
-fn every_model_gets_its_report() {
+fn every_model_gets_its_report_and_readme_has_that_of_sb() {
     let [table, trace] = PRINTING;
     for model in collection::load(&collection::directory()).unwrap() {
         assert_eq!(check(&model.bytes, table, trace).to_string(), model.report, "{}", model.name);
     }
+    let text = fs::read_to_string(collection::directory().join("README.md")).unwrap();
+    assert!(text.contains(&format!("```\n{}```\n", collection::named("sb").unwrap().report)));
 }
