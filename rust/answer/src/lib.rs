@@ -1,6 +1,6 @@
 //! What a checker answers to program bytes in a lent table, as data, in the eight numbers of the C header
-//! `order_check.h`, in the bytes of a trace and in the lines of the printing program. Whoever calls a checker learns here
-//! which number, byte or letter stands for what.
+//! `order_check.h`, in the bytes of a trace and in the lines of the printing program. No other crate that calls a
+//! checker knows which number, byte or letter stands for what.
 #![forbid(unsafe_code)]
 
 mod kind;

@@ -38,7 +38,7 @@ impl Step {
     }
 
     /// The step that the bytes are, if they are one.
-    pub fn of(bytes: [u8; Step::BYTES]) -> Option<Step> {
+    fn of(bytes: [u8; Step::BYTES]) -> Option<Step> {
         let access = match bytes {
             [0, ..] => return None,
             [_, LOCAL, 0, 0] => None,

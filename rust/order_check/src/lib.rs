@@ -3,7 +3,8 @@
 //!
 //! The caller lends all the memory: a table, in which the search writes a place for each situation that it meets, a
 //! trace, which gets the steps of a run that shows a program not to be robust, each with the access that it makes, and
-//! for large tables an index. No memory is allocated, and nothing is kept after the call. What was lent changes no answer by what it held before.
+//! for large tables an index. No memory is allocated, and nothing is kept after the call. What was lent changes no
+//! answer by what it held before.
 //!
 //! ```
 //! use order_check::{check, check_indexed, steps_in, Access, Kind, Report, Step};

@@ -27,7 +27,7 @@ const ALL: &[u8] = &[1, 2, 3, 4, 5, 6, 7, 8, 9, 10];
 /// Accesses that always have a step, mostly plain ones.
 const ACCESSES: &[u8] = &[5, 5, 5, 5, 6, 6, 6, 6, 7, 8];
 
-/// Every op that always has a step, those with operands in most lines.
+/// Every op that always has a step: none waits.
 const STEADY: &[u8] = &[1, 2, 3, 4, 5, 5, 6, 6, 7, 8, 8];
 
 /// Plain reads and writes more often than the rest.

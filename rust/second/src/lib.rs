@@ -1,6 +1,6 @@
 //! The order checker once more, written from documents 01 and 02 alone: their definitions on execution graphs, and no
-//! rules that would carry a situation from one state to the next. It depends on programs and their bytes alone, the crate
-//! `program`, so that a slip in the proved checker or in the tools around it is not repeated here.
+//! rules that would carry a situation from one state to the next. It depends on programs and their bytes alone, the
+//! crate `program`, so that a slip in the proved checker or in the tools around it is not repeated here.
 //!
 //! A state has the thread states and the graph of one SC run. Happens-before and SC order are closures computed on
 //! that graph; the situation of a state and its witnesses are read off them. What a step shows is read off the event

@@ -42,8 +42,8 @@ pub fn lengths(numbers: &mut Numbers, expected: &Expected) -> Vec<Lengths> {
         Lengths { table: numbers.below(size), trace: numbers.below(5) },
     ];
     if let Ending::Witness(_) = search.ending {
-        let table = just + spare;
-        all.extend(trace_lengths(numbers, steps).map(|trace| Lengths { table, trace }));
+        let traces = trace_lengths(numbers, steps);
+        all.extend(traces.map(|trace| Lengths { table: just + numbers.below(spare + 1), trace }));
     }
     all
 }
