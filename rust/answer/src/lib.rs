@@ -1,9 +1,15 @@
-//! What a checker answers to program bytes in a lent table, as data and in the eight numbers of the C header
-//! `order_check.h`. No other crate knows which number stands for what.
+//! What a checker answers to program bytes in a lent table, as data, in the eight numbers of the C header
+//! `order_check.h`, in the bytes of a trace and in the lines of the printing program. No other crate that calls a
+//! checker knows which number, byte or letter stands for what.
 #![forbid(unsafe_code)]
 
+mod kind;
 mod numbers;
 mod report;
+mod step;
+mod text;
 
+pub use kind::Kind;
 pub use numbers::EightNumbers;
-pub use report::{Kind, Report};
+pub use report::Report;
+pub use step::{steps_in, Access, Step};

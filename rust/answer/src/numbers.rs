@@ -1,6 +1,7 @@
 //! The eight numbers of a report, both ways.
 
-use crate::report::{Kind, Report};
+use crate::kind::Kind;
+use crate::report::Report;
 
 /// Verdict, number, count, steps, thread, kind, location, value. What a verdict does not use is 0.
 pub type EightNumbers = [u64; 8];
@@ -13,9 +14,6 @@ const REFUSED: u64 = 3;
 const TRACE_SHORT: u64 = 10;
 const TABLE_FULL: u64 = 11;
 
-/// The kinds from 1.
-const KINDS: [Kind; 3] = [Kind::Read, Kind::Write, Kind::Update];
-
 impl Report {
     /// The report that the numbers stand for, if they stand for one.
     pub fn of(numbers: EightNumbers) -> Option<Report> {
@@ -23,11 +21,11 @@ impl Report {
         let size = |number: u64| number as usize;
         Some(match numbers {
             [RB, 0, count, 0, 0, 0, 0, 0] => Report::Robust { count: size(count) },
-            [NR, 0, count, steps, thread, kind @ 1..=3, location, value @ 0..=255] => Report::NotRobust {
+            [NR, 0, count, steps, thread, kind, location, value @ 0..=255] => Report::NotRobust {
                 count: size(count),
                 steps: size(steps),
                 thread: size(thread),
-                kind: KINDS[size(kind) - 1],
+                kind: Kind::of(kind)?,
                 location: size(location),
                 value: value as u8,
             },
@@ -44,9 +42,8 @@ impl Report {
         match self {
             Report::Robust { count } => [RB, 0, number(count), 0, 0, 0, 0, 0],
             Report::NotRobust { count, steps, thread, kind, location, value } => {
-                let kind = 1 + KINDS.iter().take_while(|&&other| other != kind).count();
-                let [count, steps, thread] = [count, steps, thread].map(number);
-                [NR, 0, count, steps, thread, number(kind), number(location), value.into()]
+                let [count, steps, thread, location] = [count, steps, thread, location].map(number);
+                [NR, 0, count, steps, thread, kind.number().into(), location, value.into()]
             }
             Report::Full { count } => [FU, TABLE_FULL, number(count), 0, 0, 0, 0, 0],
             Report::Short { wanted } => [REFUSED, TRACE_SHORT, 0, number(wanted), 0, 0, 0, 0],

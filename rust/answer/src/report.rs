@@ -1,5 +1,7 @@
 //! What the checker reports.
 
+use crate::kind::Kind;
+
 /// The answer to a program in a lent table.
 #[derive(Clone, Copy, Debug, PartialEq, Eq)]
 pub enum Report {
@@ -9,13 +11,16 @@ pub enum Report {
         /// How many situations the program has; each has its place in the table.
         count: usize,
     },
-    /// NR: the program is not robust. The trace starts with the threads, from 1, whose turns make an SC run of `steps`
-    /// steps. After it the next line of `thread` may go by a write that is no longer the newest, and no SC run builds
-    /// the graph that it leaves.
+    /// NR: the program is not robust. The trace starts with the steps of an SC run, [`Step::BYTES`] bytes each, which
+    /// [`steps_in`] reads; its other bytes are unchanged. After these steps the next line of `thread` may go by a write
+    /// that is no longer the newest, and no SC run builds the graph that it leaves.
+    ///
+    /// [`Step::BYTES`]: crate::Step::BYTES
+    /// [`steps_in`]: crate::steps_in
     NotRobust {
         /// How many places are written. The last one is where the run ends.
         count: usize,
-        /// How many steps the run has, which is how many bytes of the trace are written.
+        /// How many steps the run has. Four times as many bytes of the trace are written.
         steps: usize,
         /// The lowest thread, from 1, that has a witness there, which is such an access.
         thread: usize,
@@ -35,7 +40,7 @@ pub enum Report {
     /// 10: the program is not robust, but the trace is too short for the steps of the run, and unchanged. The table is
     /// written as for [`Report::NotRobust`].
     Short {
-        /// A trace of this length suffices: to see the run, call again with one.
+        /// A trace of this length, in bytes, suffices: to see the run, call again with one.
         wanted: usize,
     },
     /// The bytes are no program. All that was lent is unchanged.
@@ -43,15 +48,4 @@ pub enum Report {
         /// The first check that failed, 1 to 9, as README.md at the root of the repository lists them.
         number: u8,
     },
-}
-
-/// The kind of an access.
-#[derive(Clone, Copy, Debug, PartialEq, Eq)]
-pub enum Kind {
-    /// R: a read. So is a CAS that fails.
-    Read,
-    /// W: a write.
-    Write,
-    /// M: a read-modify-write.
-    Update,
 }

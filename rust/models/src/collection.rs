@@ -1,4 +1,4 @@
-//! The models of this repository, each with the verdict that its text expects.
+//! The models of this repository, each with the verdict that its text expects and the report that is stored of it.
 
 use std::fs;
 use std::path::{Path, PathBuf};
@@ -23,7 +23,12 @@ pub struct Model {
     pub bytes: Vec<u8>,
     /// The verdict of its `# expect` line.
     pub expected: Verdict,
+    /// What the printing program prints for it: the text of its file in [`REPORTS`].
+    pub report: String,
 }
+
+/// The folder of the stored reports, beside the models; each is named as its model and ends in `.txt`.
+pub const REPORTS: &str = "reports";
 
 /// Where the models stand: `models/` at the root of the repository.
 pub fn directory() -> PathBuf {
@@ -52,11 +57,17 @@ pub fn named(name: &str) -> Result<Model, String> {
 
 fn load_one(path: &Path) -> Result<Model, String> {
     let text = fs::read_to_string(path).map_err(|error| format!(" {error}"))?;
+    let name = path.file_stem().unwrap_or_default().to_string_lossy().into_owned();
     Ok(Model {
-        name: path.file_stem().unwrap_or_default().to_string_lossy().into_owned(),
         bytes: assemble(text.as_bytes()).map_err(|mistake| mistake.to_string())?,
         expected: expected(&text)?,
+        report: report(&path.with_file_name(REPORTS).join(format!("{name}.txt")))?,
+        name,
     })
+}
+
+fn report(path: &Path) -> Result<String, String> {
+    fs::read_to_string(path).map_err(|error| format!(" no report {}: {error}", path.display()))
 }
 
 /// The verdict of the one line `# expect RB` or `# expect NR`.

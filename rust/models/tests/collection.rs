@@ -1,13 +1,21 @@
 //! The models of this repository: each assembles, is accepted, and says what it expects.
 #![forbid(unsafe_code)]
 
+use std::collections::BTreeSet;
 use std::fs;
+use std::path::Path;
 
-use models::collection::{self, Model, Verdict};
+use models::collection::{self, Model, Verdict, REPORTS};
 use program::{fields, read, Line, Operand};
 
 fn all() -> Vec<Model> {
     collection::load(&collection::directory()).unwrap()
+}
+
+/// The names of what stands in a folder.
+fn files(folder: &Path) -> Vec<String> {
+    let entries = fs::read_dir(folder).unwrap();
+    entries.map(|entry| entry.unwrap().file_name().to_string_lossy().into_owned()).collect()
 }
 
 fn bytes_of(name: &str) -> Vec<u8> {
@@ -23,12 +31,22 @@ fn every_model_is_accepted() {
 
 #[test]
 fn every_file_is_a_model() {
-    let files = fs::read_dir(collection::directory()).unwrap().map(|entry| entry.unwrap().file_name());
-    let names: Vec<String> = files.map(|name| name.to_string_lossy().into_owned()).collect();
-    let others: Vec<_> =
-        names.iter().filter(|name| !name.ends_with(".order") && *name != "README.md").collect();
-    assert!(others.is_empty(), "neither a model nor README.md: {others:?}");
+    let names = files(&collection::directory());
+    let is_known = |name: &str| name.ends_with(".order") || [REPORTS, "README.md"].contains(&name);
+    let others: Vec<_> = names.iter().filter(|name| !is_known(name)).collect();
+    assert!(others.is_empty(), "neither a model nor README.md nor the reports: {others:?}");
     assert_eq!(all().len(), names.iter().filter(|name| name.ends_with(".order")).count());
+}
+
+#[test]
+fn every_report_is_of_a_model_and_says_what_it_expects() {
+    let names: BTreeSet<_> = files(&collection::directory().join(REPORTS)).into_iter().collect();
+    assert_eq!(names, all().iter().map(|model| format!("{}.txt", model.name)).collect());
+    for Model { name, expected, report, .. } in all() {
+        let verdict = if expected == Verdict::Robust { "RB " } else { "NR " };
+        // A model may have more situations than the printing program has places.
+        assert!(report.starts_with(verdict) || report.starts_with("FU "), "{name}: {report}");
+    }
 }
 
 #[test]
@@ -84,7 +102,7 @@ fn the_cases_of_document_01_have_its_bytes() {
 fn the_models_use_every_op_and_registers_as_operands() {
     let lines: Vec<Line> =
         all().iter().flat_map(|model| read(&model.bytes).unwrap().threads).flatten().collect();
-    let ops: std::collections::BTreeSet<u8> = lines.iter().map(|line| fields(line)[0]).collect();
+    let ops: BTreeSet<u8> = lines.iter().map(|line| fields(line)[0]).collect();
     assert_eq!(ops, (1..=10).collect());
     assert!(lines.iter().any(|line| matches!(line, Line::Write { a: Operand::Register(_), .. })));
 }
@@ -109,7 +127,7 @@ fn an_expectation_is_one_line() {
 
 #[test]
 fn a_directory_with_a_bad_model_is_refused_by_name() {
-    let directory = std::path::Path::new(env!("CARGO_TARGET_TMPDIR")).join("bad-model");
+    let directory = Path::new(env!("CARGO_TARGET_TMPDIR")).join("bad-model");
     fs::create_dir_all(&directory).unwrap();
     fs::write(directory.join("no-verdict.order"), "values 2\nlocations x\nthread\n").unwrap();
     let message = collection::load(&directory).unwrap_err();
@@ -120,4 +138,16 @@ fn a_directory_with_a_bad_model_is_refused_by_name() {
     fs::write(directory.join("no-verdict.order"), "# expect RB\nvalue 2\n").unwrap();
     let message = collection::load(&directory).unwrap_err();
     assert!(message.ends_with("no-verdict.order:2:1: expected 'values', found 'value'"), "{message}");
+}
+
+#[test]
+fn a_model_without_a_report_is_refused_by_name() {
+    let directory = Path::new(env!("CARGO_TARGET_TMPDIR")).join("no-report");
+    fs::create_dir_all(directory.join(REPORTS)).unwrap();
+    fs::write(directory.join("one.order"), "# expect RB\nvalues 2\nlocations x\nthread\n").unwrap();
+    fs::write(directory.join(REPORTS).join("one.txt"), "RB 1\n").unwrap();
+    assert_eq!(collection::load(&directory).unwrap()[0].report, "RB 1\n");
+    fs::remove_file(directory.join(REPORTS).join("one.txt")).unwrap();
+    let message = collection::load(&directory).unwrap_err();
+    assert!(message.contains("one.order: no report ") && message.contains("reports/one.txt"), "{message}");
 }

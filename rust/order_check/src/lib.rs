@@ -2,35 +2,44 @@
 //! as on a sequentially consistent (SC) one?
 //!
 //! The caller lends all the memory: a table, in which the search writes a place for each situation that it meets, a
-//! trace, which gets the steps of a run that shows a program not to be robust, and for large tables an index. No memory
-//! is allocated, and nothing is kept after the call. What was lent changes no answer by what it held before.
+//! trace, which gets the steps of a run that shows a program not to be robust, each with the access that it makes, and
+//! for large tables an index. No memory is allocated, and nothing is kept after the call. What was lent changes no
+//! answer by what it held before.
 //!
 //! ```
-//! use order_check::{check, check_indexed, Kind, Report};
+//! use order_check::{check, check_indexed, steps_in, Access, Kind, Report, Step};
 //!
 //! // Store buffering: x := 1; read y ‖ y := 1; read x.
 //! let program = b"PR\x02\x02\x02TH\x02IN\x05\x00\x00\x01\x00IN\x06\x00\x01\x00\x00\
 //!     TH\x02IN\x05\x00\x01\x01\x00IN\x06\x00\x00\x00\x00";
-//! let (mut table, mut trace) = (vec![0; 49_152], vec![0; 4_096]);
+//! let (mut table, mut trace) = (vec![0; 49_152], vec![0; 8_192]);
 //! let report = check(program, &mut table, &mut trace);
 //!
 //! // After thread 1 took two steps and thread 2 one, thread 2 may read the 0 that x started with.
 //! let stale = Report::NotRobust { count: 7, steps: 3, thread: 2, kind: Kind::Read, location: 0, value: 0 };
 //! assert_eq!(report, stale);
-//! assert_eq!(trace[..3], [1, 1, 2]);
+//!
+//! // The trace has four bytes for each of these steps: thread, kind, location, value.
+//! assert_eq!(trace[..12], [1, 2, 0, 1, 1, 1, 1, 0, 2, 2, 1, 1]);
+//! let step = |thread, kind, location, value| {
+//!     Step { thread, access: Some(Access { kind, location, value }) }
+//! };
+//! let steps = [step(1, Kind::Write, 0, 1), step(1, Kind::Read, 1, 0), step(2, Kind::Write, 1, 1)];
+//! assert_eq!(steps_in(&trace[..3 * Step::BYTES]).as_deref(), Some(&steps[..]));
 //!
 //! // The same by an index, of two slots for each place that there will be.
 //! assert_eq!(check_indexed(program, &mut table, &mut trace, &mut [0; 14]), stale);
 //! ```
 #![deny(unsafe_code)]
 
-pub use answer::{EightNumbers, Kind, Report};
+pub use answer::{steps_in, Access, EightNumbers, Kind, Report, Step};
 
 /// Checks program bytes in the lent table.
 ///
 /// Any bytes and any lengths will do, 0 too: what is no program is [refused](Report::Refused), and memory that does not
 /// suffice is [reported](Report::Full) [as such](Report::Short). The table has as many places as fit into it whole, at
-/// most 1,000,000,000; for a program of T threads and L locations a place has 9 + T × (6 + 4L) + L × (3 + 4L) bytes.
+/// most 1,000,000,000; for a program of T threads and L locations a place has 9 + T × (6 + 4L) + L × (3 + 4L) bytes. A
+/// trace of [`Step::BYTES`] bytes for each place is never too short.
 ///
 /// Each situation is compared with all before it, so that the time grows with the square of their number:
 /// [`check_indexed`] is for large tables.

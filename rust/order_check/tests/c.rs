@@ -19,5 +19,8 @@ fn a_program_in_c_gets_the_answers_of_document_01() {
         .expect("cc is there, since cargo links by it");
     assert!(compiled.status.success(), "{}", String::from_utf8_lossy(&compiled.stderr));
     let run = Command::new(&caller).output().unwrap();
-    assert!(run.status.success(), "{}", String::from_utf8_lossy(&run.stdout));
+    let printed = String::from_utf8_lossy(&run.stdout);
+    assert!(run.status.success(), "{printed}");
+    let sb = "ST 1 W 0 1\nST 1 R 1 0\nST 2 W 1 1\n";
+    assert_eq!(printed, format!("{sb}ST 1 L 0 0\n{sb}"));
 }

@@ -1,4 +1,5 @@
-/* A program in C that calls the checker through its header, and ends with 0 where each answer is the expected one. */
+/* A program in C that calls the checker through its header, prints the steps of two runs, and ends with 0 where each
+   answer is the expected one. */
 #include <stdio.h>
 #include <string.h>
 
@@ -15,12 +16,24 @@ static const uint8_t sb[] = {
     'I', 'N', 6, 0, 0, 0, 0,
 };
 
+/* The same with a local line before it: r0 := 1; x := r0; read y || y := 1; read x. */
+static const uint8_t local_sb[] = {
+    'P', 'R', 2, 2, 2,
+    'T', 'H', 3,
+    'I', 'N', 1, 0, 0, 1, 0,
+    'I', 'N', 5, 0, 0, 128, 0,
+    'I', 'N', 6, 0, 1, 0, 0,
+    'T', 'H', 2,
+    'I', 'N', 5, 0, 1, 1, 0,
+    'I', 'N', 6, 0, 0, 0, 0,
+};
+
 /* One thread without lines, and one location. */
 static const uint8_t empty_thread[] = {'P', 'R', 1, 1, 2, 'T', 'H', 0};
 
-/* Seven places of two threads and two locations have 413 bytes. */
+/* Seven places of two threads and two locations have 413 bytes, and three steps have the bytes of a trace but one. */
 static uint8_t table[413];
-static uint8_t trace[4];
+static uint8_t trace[3 * ORDER_STEP_BYTES + 1];
 static uint64_t slots[15];
 
 static int failures = 0;
@@ -59,7 +72,42 @@ static void expect_trace(const char *name, const uint8_t expected[sizeof trace])
 {
     if (memcmp(trace, expected, sizeof trace) != 0) {
         failures++;
-        printf("%s: the trace is %d %d %d %d\n", name, trace[0], trace[1], trace[2], trace[3]);
+        printf("%s: the trace is", name);
+        for (size_t at = 0; at < sizeof trace; at++) {
+            printf(" %d", trace[at]);
+        }
+        printf("\n");
+    }
+}
+
+/* The letter of a step's kind. */
+static char letter(uint8_t kind)
+{
+    switch (kind) {
+    case ORDER_LOCAL:
+        return 'L';
+    case ORDER_READ:
+        return 'R';
+    case ORDER_WRITE:
+        return 'W';
+    case ORDER_UPDATE:
+        return 'M';
+    default:
+        return '?';
+    }
+}
+
+/* Checks a program that is not robust, and prints the steps of the run, each with its access. */
+static void print_run(const uint8_t *program, size_t length)
+{
+    static uint8_t large_table[4096];
+    static uint8_t large_trace[4096];
+    uint64_t answer[ORDER_FIELDS];
+    order_check(program, length, large_table, sizeof large_table, large_trace, sizeof large_trace, answer);
+    for (uint64_t at = 0; at < answer[ORDER_STEPS]; at++) {
+        const uint8_t *step = large_trace + ORDER_STEP_BYTES * at;
+        printf("ST %d %c %d %d\n", step[ORDER_STEP_THREAD], letter(step[ORDER_STEP_KIND]),
+               step[ORDER_STEP_LOCATION], step[ORDER_STEP_VALUE]);
     }
 }
 
@@ -70,8 +118,8 @@ int main(void)
     const uint64_t robust[] = {ORDER_RB, 0, 1, 0, 0, 0, 0, 0};
     const uint64_t no_place[] = {ORDER_FU, ORDER_TABLE_FULL, 0, 0, 0, 0, 0, 0};
     const uint64_t no_program[] = {ORDER_REFUSED, 1, 0, 0, 0, 0, 0, 0};
-    const uint8_t steps[] = {1, 1, 2, 9};
-    const uint8_t unchanged[] = {9, 9, 9, 9};
+    const uint8_t steps[] = {1, ORDER_WRITE, 0, 1, 1, ORDER_READ, 1, 0, 2, ORDER_WRITE, 1, 1, 9};
+    const uint8_t unchanged[] = {9, 9, 9, 9, 9, 9, 9, 9, 9, 9, 9, 9, 9};
 
     expect("SB", sb, sizeof sb, 413, sizeof trace, not_robust);
     expect_trace("SB", steps);
@@ -81,18 +129,21 @@ int main(void)
     expect("an empty thread and nothing lent", empty_thread, sizeof empty_thread, 0, 0, no_place);
     expect("no bytes", sb, 0, 0, 0, no_program);
 
-    /* A trace that is too short, then one of the length that is wanted. */
+    print_run(sb, sizeof sb);
+    print_run(local_sb, sizeof local_sb);
+
+    /* A trace that is too short by a byte, then one of the length that is wanted, in bytes. */
     uint64_t answer[ORDER_FIELDS];
-    order_check(sb, sizeof sb, table, sizeof table, trace, 2, answer);
+    order_check(sb, sizeof sb, table, sizeof table, trace, 3 * ORDER_STEP_BYTES - 1, answer);
     if (answer[ORDER_VERDICT] != ORDER_REFUSED || answer[ORDER_NUMBER] != ORDER_TRACE_SHORT
-        || answer[ORDER_STEPS] < 3 || answer[ORDER_STEPS] > 7) {
+        || answer[ORDER_STEPS] < 3 * ORDER_STEP_BYTES || answer[ORDER_STEPS] > 7 * ORDER_STEP_BYTES) {
         failures++;
         printf("a short trace: verdict %d, number %d, wanted %d\n", (int)answer[ORDER_VERDICT],
                (int)answer[ORDER_NUMBER], (int)answer[ORDER_STEPS]);
     } else {
-        uint8_t wanted[7];
+        uint8_t wanted[7 * ORDER_STEP_BYTES];
         order_check(sb, sizeof sb, table, sizeof table, wanted, (size_t)answer[ORDER_STEPS], answer);
-        if (answer[ORDER_VERDICT] != ORDER_NR || memcmp(wanted, steps, 3) != 0) {
+        if (answer[ORDER_VERDICT] != ORDER_NR || memcmp(wanted, steps, 3 * ORDER_STEP_BYTES) != 0) {
             failures++;
             printf("the wanted length: verdict %d\n", (int)answer[ORDER_VERDICT]);
         }

@@ -1,7 +1,7 @@
 //! The cases of document 01 as a user of the crate gets them.
 #![forbid(unsafe_code)]
 
-use order_check::{check, check_indexed, Kind, Report};
+use order_check::{check, check_indexed, steps_in, Access, Kind, Report, Step};
 
 /// x := 1; read y ‖ y := 1; read x; K = 2.
 const SB: &[u8] = b"PR\x02\x02\x02TH\x02IN\x05\x00\x00\x01\x00IN\x06\x00\x01\x00\x00\
@@ -20,36 +20,70 @@ const EMPTY_THREAD: &[u8] = b"PR\x01\x01\x02TH\x00";
 /// Seven places of two threads and two locations.
 const SEVEN: usize = 413;
 
+/// The bytes of three steps.
+const THREE: usize = 12;
+
+/// x := 1; read y ‖ y := 1.
+const STEPS_OF_SB: [u8; THREE] = [1, 2, 0, 1, 1, 1, 1, 0, 2, 2, 1, 1];
+
 fn not_robust(kind: Kind) -> Report {
     Report::NotRobust { count: 7, steps: 3, thread: 2, kind, location: 0, value: 0 }
 }
 
 #[test]
-fn the_kind_of_the_access_is_named() {
-    for (program, kind) in [(SB, Kind::Read), (TWO_WRITES, Kind::Write), (SB_OF_UPDATES, Kind::Update)] {
-        let (mut table, mut trace) = ([0; SEVEN], [9; 4]);
+fn the_kind_of_the_access_is_named_and_that_of_each_step() {
+    for (program, kind, value) in
+        [(SB, Kind::Read, 0), (TWO_WRITES, Kind::Write, 2), (SB_OF_UPDATES, Kind::Update, 0)]
+    {
+        let (mut table, mut trace) = ([0; SEVEN], [9; THREE + 1]);
         assert_eq!(check(program, &mut table, &mut trace), not_robust(kind));
-        assert_eq!(trace, [1, 1, 2, 9]);
+        let step = |thread, kind, location, value| {
+            let access = Some(Access { kind, location, value });
+            Step { thread, access }
+        };
+        let steps = [step(1, Kind::Write, 0, 1), step(1, kind, 1, value), step(2, Kind::Write, 1, 1)];
+        assert_eq!(steps_in(&trace[..THREE]).as_deref(), Some(&steps[..]));
+        assert_eq!(trace[THREE], 9);
     }
 }
 
 #[test]
+fn a_step_of_a_local_line_has_no_access() {
+    // r0 := 1; x := r0; read y ‖ y := 1; read x; K = 2.
+    let program = b"PR\x02\x02\x02TH\x03IN\x01\x00\x00\x01\x00IN\x05\x00\x00\x80\x00IN\x06\x00\x01\x00\x00\
+        TH\x02IN\x05\x00\x01\x01\x00IN\x06\x00\x00\x00\x00";
+    let (mut table, mut trace) = (vec![0; 10_000], [9; 4 + THREE]);
+    let report = check(program, &mut table, &mut trace);
+    assert!(matches!(report, Report::NotRobust { steps: 4, thread: 2, kind: Kind::Read, .. }), "{report:?}");
+    assert_eq!(trace, [[1, 0, 0, 0].as_slice(), &STEPS_OF_SB].concat()[..]);
+    assert_eq!(steps_in(&trace).unwrap()[0], Step { thread: 1, access: None });
+}
+
+#[test]
 fn a_larger_table_decides() {
-    let mut trace = [9; 4];
+    let mut trace = [9; THREE];
     assert_eq!(check(SB, &mut [0; SEVEN - 1], &mut trace), Report::Full { count: 6 });
-    assert_eq!(trace, [9; 4]);
+    assert_eq!(trace, [9; THREE]);
     assert_eq!(check(SB, &mut [0; SEVEN], &mut trace), not_robust(Kind::Read));
+    assert_eq!(trace, STEPS_OF_SB);
 }
 
 #[test]
 fn a_trace_of_the_wanted_length_suffices() {
     let mut table = [0; SEVEN];
-    let Report::Short { wanted } = check(SB, &mut table, &mut [0; 2]) else {
-        panic!("a trace of 2 is too short");
-    };
-    let mut trace = vec![0; wanted];
-    assert_eq!(check(SB, &mut table, &mut trace), not_robust(Kind::Read));
-    assert_eq!(trace[..3], [1, 1, 2]);
+    for short in 0..THREE {
+        let mut trace = vec![9; short];
+        let Report::Short { wanted } = check(SB, &mut table, &mut trace) else {
+            panic!("a trace of {short} is too short");
+        };
+        assert_eq!(trace, vec![9; short]);
+        // From four bytes a step to four bytes a place.
+        assert!((THREE..=28).contains(&wanted), "{wanted}");
+        let mut trace = vec![9; wanted];
+        assert_eq!(check(SB, &mut table, &mut trace), not_robust(Kind::Read));
+        let (steps, rest) = trace.split_at(THREE);
+        assert_eq!((steps, rest), (&STEPS_OF_SB[..], &vec![9; wanted - THREE][..]));
+    }
 }
 
 #[test]
@@ -61,21 +95,22 @@ fn nothing_need_be_lent() {
 
 #[test]
 fn what_is_no_program_changes_nothing() {
-    let (mut table, mut trace) = ([7; SEVEN], [9; 4]);
+    let (mut table, mut trace) = ([7; SEVEN], [9; THREE]);
     let more = [SB, b"\x00"].concat();
     assert_eq!(check(&more, &mut table, &mut trace), Report::Refused { number: 9 });
-    assert_eq!((table, trace), ([7; SEVEN], [9; 4]));
+    assert_eq!((table, trace), ([7; SEVEN], [9; THREE]));
     let mut index = [5; 14];
     assert_eq!(check_indexed(&more, &mut table, &mut trace, &mut index), Report::Refused { number: 9 });
-    assert_eq!((table, trace, index), ([7; SEVEN], [9; 4], [5; 14]));
+    assert_eq!((table, trace, index), ([7; SEVEN], [9; THREE], [5; 14]));
 }
 
 #[test]
 fn an_index_of_any_length_changes_nothing_but_itself() {
-    let (mut table, mut trace) = ([0; SEVEN], [9; 4]);
+    let (mut table, mut trace) = ([0; SEVEN], [9; THREE + 1]);
     check(SB, &mut table, &mut trace);
     for slots in 0..20 {
-        let (mut other_table, mut other_trace, mut index) = ([7; SEVEN], [9; 4], vec![u64::MAX; slots]);
+        let (mut other_table, mut other_trace, mut index) =
+            ([7; SEVEN], [9; THREE + 1], vec![u64::MAX; slots]);
         let report = check_indexed(SB, &mut other_table, &mut other_trace, &mut index);
         assert_eq!(report, not_robust(Kind::Read));
         assert_eq!((other_table, other_trace), (table, trace));

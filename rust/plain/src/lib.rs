@@ -14,11 +14,13 @@ mod trace;
 mod update;
 mod witness;
 
-use answer::Report;
+use answer::{Report, Step};
 use program::{read, Program};
 
 use layout::Layout;
 use search::{Outcome, Search};
+use step::Stepper;
+use trace::Places;
 use witness::Witness;
 
 /// Checks program bytes in the lent table and trace.
@@ -37,11 +39,13 @@ fn judge(program: &Program, table: &mut [u8], trace: &mut [u8]) -> Report {
         Outcome::Whole => Report::Robust { count },
         Outcome::Full => Report::Full { count },
         Outcome::Witness(Witness { thread, kind, location, value }) => {
-            let steps = trace::steps_to(table, layout.size, count);
-            if trace.len() < steps {
-                return Report::Short { wanted: steps };
-            }
-            trace::lay(&mut trace[..steps], table, layout.size, count);
+            let places = Places { stepper: Stepper { program, layout: &layout }, table };
+            let steps = places.steps_to(count);
+            let wanted = Step::BYTES * steps;
+            let Some(front) = trace.get_mut(..wanted) else {
+                return Report::Short { wanted };
+            };
+            places.lay(front, count);
             Report::NotRobust { count, steps, thread: thread + 1, kind, location, value }
         }
     }

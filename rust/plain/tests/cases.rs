@@ -1,7 +1,7 @@
 //! The plain checker on the cases of document 01 and on the models. `rust/compare` holds it to every byte.
 #![forbid(unsafe_code)]
 
-use answer::{Kind, Report};
+use answer::{steps_in, Kind, Report, Step};
 use models::collection::{self, Verdict};
 use plain::check;
 
@@ -18,13 +18,20 @@ fn model(name: &str) -> Vec<u8> {
 #[test]
 fn of_document_01() {
     let sb = model("sb");
+    let of_sb = [1, 2, 0, 1, 1, 1, 1, 0, 2, 2, 1, 1];
+    let of_2_2w = [1, 2, 0, 1, 1, 2, 1, 2, 2, 2, 1, 1];
     let not_robust =
         |count, kind| Report::NotRobust { count, steps: 3, thread: 2, kind, location: 0, value: 0 };
-    assert_eq!(answer(&sb, 413, 4), (not_robust(7, Kind::Read), vec![1, 1, 2, 9]));
-    assert_eq!(answer(&sb, 412, 4), (Report::Full { count: 6 }, vec![9; 4]));
-    assert_eq!(answer(&sb, 413, 2), (Report::Short { wanted: 3 }, vec![9; 2]));
+    for more in 0..4 {
+        let trace = [of_sb.as_slice(), &vec![9; more]].concat();
+        assert_eq!(answer(&sb, 413, 12 + more), (not_robust(7, Kind::Read), trace));
+    }
+    assert_eq!(answer(&sb, 412, 12), (Report::Full { count: 6 }, vec![9; 12]));
+    for short in 0..12 {
+        assert_eq!(answer(&sb, 413, short), (Report::Short { wanted: 12 }, vec![9; short]));
+    }
     assert_eq!(answer(&model("mp"), 767, 1), (Report::Robust { count: 13 }, vec![9]));
-    assert_eq!(answer(&model("2+2w"), 49_152, 3), (not_robust(8, Kind::Write), vec![1, 1, 2]));
+    assert_eq!(answer(&model("2+2w"), 49_152, 12), (not_robust(8, Kind::Write), of_2_2w.to_vec()));
     assert_eq!(answer(b"PR\x01\x01\x02TH\x00", 25, 0).0, Report::Full { count: 0 });
     assert_eq!(answer(b"", 500, 3), (Report::Refused { number: 1 }, vec![9; 3]));
 }
@@ -32,11 +39,24 @@ fn of_document_01() {
 #[test]
 fn every_model_has_its_verdict() {
     for model in collection::load(&collection::directory()).unwrap() {
-        let found = match answer(&model.bytes, 10_000_000, 1_000).0 {
+        let found = match answer(&model.bytes, 10_000_000, 8_192).0 {
             Report::Robust { .. } => Some(Verdict::Robust),
             Report::NotRobust { .. } => Some(Verdict::NotRobust),
             Report::Full { .. } | Report::Short { .. } | Report::Refused { .. } => None,
         };
         assert_eq!(found, Some(model.expected), "{}", model.name);
+    }
+}
+
+#[test]
+fn every_model_has_its_report() {
+    for model in collection::load(&collection::directory()).unwrap() {
+        let (report, trace) = answer(&model.bytes, 49_152, 8_192);
+        let steps = if let Report::NotRobust { steps, .. } = report { steps } else { 0 };
+        let (front, rest) = trace.split_at(Step::BYTES * steps);
+        let steps = steps_in(front).unwrap_or_else(|| panic!("{}: {front:?}", model.name));
+        let steps: String = steps.iter().map(|step| format!("{step}\n")).collect();
+        assert_eq!(format!("{report}\n{steps}"), model.report, "{}", model.name);
+        assert!(rest.iter().all(|&byte| byte == 9), "{}", model.name);
     }
 }

@@ -27,6 +27,9 @@ const ALL: &[u8] = &[1, 2, 3, 4, 5, 6, 7, 8, 9, 10];
 /// Accesses that always have a step, mostly plain ones.
 const ACCESSES: &[u8] = &[5, 5, 5, 5, 6, 6, 6, 6, 7, 8];
 
+/// Every op that always has a step: none waits.
+const STEADY: &[u8] = &[1, 2, 3, 4, 5, 5, 6, 6, 7, 8, 8];
+
 /// Plain reads and writes more often than the rest.
 const RACES: &[u8] = &[1, 2, 3, 4, 5, 5, 5, 5, 6, 6, 6, 6, 7, 7, 8, 8, 9, 10];
 
@@ -39,6 +42,11 @@ impl Shape {
     /// A few short threads, as a litmus program has them, so that a search of the program ends soon.
     pub fn small() -> Shape {
         Shape { threads: 1..=3, locations: 1..=3, values: 2..=3, lines: 0..=4, ops: ALL }
+    }
+
+    /// Two longer threads. A quarter is not robust, with steps of every kind on the way to the witness.
+    pub fn winding() -> Shape {
+        Shape { threads: 2..=2, locations: 2..=2, values: 2..=4, lines: 5..=9, ops: STEADY }
     }
 
     /// As the litmus programs of papers are: accesses to two locations. A third of them is not robust.

@@ -5,7 +5,7 @@ use std::collections::BTreeMap;
 
 use program::{Line, Operand, Program};
 use random::{program, Numbers, Shape};
-use second::{Ending, Kind, Search, ThreadPart};
+use second::{Ending, Kind, Place, Search, ThreadPart};
 
 /// How often each thing was met.
 #[derive(Default)]
@@ -36,9 +36,43 @@ impl Met {
         for place in search.places.iter().filter(|place| place.from != 0) {
             let before = &search.places[place.from - 1].situation;
             let thread = &before.threads[place.by - 1];
-            let line = program.threads[place.by - 1][usize::from(thread.line)];
             let now = |location: u8| before.locations[usize::from(location)].value;
-            self.note_step(thread, place.situation.threads[place.by - 1].line, line, now);
+            let next = place.situation.threads[place.by - 1].line;
+            self.note_step(thread, next, line_to(program, search, place), now);
+        }
+    }
+
+    /// Notes what the steps of a trace show.
+    fn note_trace(&mut self, program: &Program, search: &Search) {
+        let before = |place: &&Place| search.places.get(place.from.checked_sub(1)?);
+        let way = std::iter::successors(search.places.last(), before);
+        for place in way.filter(|place| place.from != 0) {
+            self.note(match place.access.map(|access| access.kind) {
+                None => "L in a trace",
+                Some(Kind::Read) => "R in a trace",
+                Some(Kind::Write) => "W in a trace",
+                Some(Kind::Update) => "M in a trace",
+            });
+            self.note_line_of_trace(line_to(program, search, place), place, program.values);
+        }
+    }
+
+    fn note_line_of_trace(&mut self, line: Line, place: &Place, values: u8) {
+        let is = |reg, operand| operand == Operand::Register(reg);
+        let Some(access) = place.access else { return };
+        match line {
+            Line::Cas { reg, a, b, .. } => {
+                self.note_if(access.kind == Kind::Read, "a CAS that fails in a trace");
+                self.note_if(is(reg, a) || is(reg, b), "a CAS with its own register in a trace");
+            }
+            Line::Fadd { reg, a, .. } => {
+                // The register has the old value, and the sum is below it only where it wraps.
+                let old = place.situation.threads[place.by - 1].registers[usize::from(reg)];
+                assert!(access.value < values);
+                self.note_if(access.value < old, "a sum that wraps in a trace");
+                self.note_if(is(reg, a), "a FADD of its own register in a trace");
+            }
+            _ => {}
         }
     }
 
@@ -81,14 +115,32 @@ impl Met {
     }
 }
 
-/// What is met in 600 programs, each searched in at most 200 places.
-fn met(seed: u64, shape: impl Fn(&mut Numbers) -> Shape) -> Met {
+/// The line whose step led to a place.
+fn line_to(program: &Program, search: &Search, place: &Place) -> Line {
+    let before = &search.places[place.from - 1].situation;
+    program.threads[place.by - 1][usize::from(before.threads[place.by - 1].line)]
+}
+
+/// So many programs of a seed, each searched in at most 200 places.
+fn searched(
+    seed: u64,
+    count: usize,
+    shape: impl Fn(&mut Numbers) -> Shape,
+) -> impl Iterator<Item = (Program, Search)> {
     let mut numbers = Numbers::new(seed);
-    let mut met = Met::default();
-    for _ in 0..600 {
+    (0..count).map(move |_| {
         let shape = shape(&mut numbers);
         let program = program(&mut numbers, &shape);
-        met.note_search(&program, &Search::new(&program, 200));
+        let search = Search::new(&program, 200);
+        (program, search)
+    })
+}
+
+/// What is met in 600 programs.
+fn met(seed: u64, shape: impl Fn(&mut Numbers) -> Shape) -> Met {
+    let mut met = Met::default();
+    for (program, search) in searched(seed, 600, shape) {
+        met.note_search(&program, &search);
         met.note_if((2..=4).contains(&program.threads.len()), "two to four threads");
     }
     met
@@ -149,4 +201,18 @@ fn crowded_programs_get_every_verdict() {
     let met = met(4, |_| Shape::crowded());
     met.at_least(100, &["op 5", "op 6", "op 7", "op 8", "op 9", "op 10", "a CAS that fails"]);
     met.at_least(5, &["RB", "FU", "NR by R"]);
+}
+
+#[test]
+fn traces_of_winding_programs_show_everything() {
+    let mut met = Met::default();
+    for (program, search) in searched(7, 2_000, |_| Shape::winding()) {
+        if let Ending::Witness(_) = search.ending {
+            met.note_trace(&program, &search);
+        }
+    }
+    met.at_least(100, &["L in a trace", "R in a trace", "W in a trace", "M in a trace"]);
+    met.at_least(100, &["a CAS that fails in a trace"]);
+    met.at_least(20, &["a CAS with its own register in a trace", "a FADD of its own register in a trace"]);
+    met.at_least(20, &["a sum that wraps in a trace"]);
 }

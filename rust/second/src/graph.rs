@@ -1,6 +1,7 @@
 //! Execution graphs: document 01, section "Graphs".
 
 use crate::events::Events;
+use crate::step::Access;
 use crate::thread::Action;
 
 /// "An execution graph has events [..], reads-from, and for each location a total modification order of its writes."
@@ -34,9 +35,9 @@ impl Graph {
         }
     }
 
-    /// Adds the thread's last event with the predecessor write w: "a read reads w, a write goes directly after w, a
-    /// read-modify-write does both".
-    pub fn add(&mut self, thread: usize, location: usize, action: Action, w: usize) {
+    /// Adds the thread's last event with the predecessor write w, and says which it is: "a read reads w, a write goes
+    /// directly after w, a read-modify-write does both".
+    pub fn add(&mut self, thread: usize, location: usize, action: Action, w: usize) -> usize {
         let event = self.events.len();
         let source = match action {
             Action::Read | Action::Update(_) => Some(w),
@@ -48,6 +49,17 @@ impl Graph {
             let place = order.iter().position(|&write| write == w).expect("w is a write to the location");
             order.insert(place + 1, event);
         }
+        event
+    }
+
+    /// What is shown of an event: the value is that of the write which a read reads, and else its own.
+    pub fn access(&self, event: usize) -> Access {
+        let Event { location, action, source, .. } = self.events[event];
+        let write = match action {
+            Action::Read => source.expect("a read reads a write"),
+            Action::Write(_) | Action::Update(_) => event,
+        };
+        Access { kind: action.kind(), location, value: self.written(write) }
     }
 
     pub fn size(&self) -> usize {

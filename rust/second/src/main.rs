@@ -7,7 +7,7 @@ use std::process::ExitCode;
 use second::{check, PRINTING};
 
 const USAGE: &str =
-    "usage: second [TABLE [TRACE]] < PROGRAM   (lengths in bytes, 49152 and 4096 if not given)";
+    "usage: second [TABLE [TRACE]] < PROGRAM   (lengths in bytes, 49152 and 8192 if not given)";
 
 fn main() -> ExitCode {
     let Some([table, trace]) = lengths() else {

@@ -1,4 +1,5 @@
-//! The verdict and what is written: document 01, sections "Checks", "Table" and "The printing program".
+//! The verdict and what is written: document 01, sections "Checks", "Table" and "The printing program", with the steps
+//! of document 02, Point 1.
 
 use std::fmt::{self, Display, Formatter};
 use std::ops::RangeInclusive;
@@ -6,6 +7,7 @@ use std::ops::RangeInclusive;
 use program::{places_available, read};
 
 use crate::search::{Ending, Place, Search};
+use crate::step::{Access, Step};
 use crate::thread::Kind;
 use crate::witness::Witness;
 
@@ -20,7 +22,7 @@ pub enum Answer {
     /// 11, printed as FU
     Full { count: usize },
     /// 10, with the bounds of the wanted length: "at least the number of steps and at most the number of places
-    /// written"
+    /// written", and "four times what they were"
     ShortTrace { wanted: RangeInclusive<usize> },
     /// 1 to 9
     Refused { number: u8 },
@@ -33,21 +35,33 @@ pub struct Report {
     pub answer: Answer,
     /// The places that are written, from the first.
     pub places: Vec<Place>,
-    /// The bytes that the trace gets at its front; empty where it is unchanged.
-    pub trace: Vec<u8>,
+    /// The steps that the trace gets at its front; none where it is unchanged.
+    pub steps: Vec<Step>,
 }
 
-/// The printing program has "a table of 49,152 bytes and a trace of 4,096".
-pub const PRINTING: [usize; 2] = [49_152, 4_096];
+/// The printing program has "a table of 49,152 bytes", and its "trace grows to 8,192 bytes".
+pub const PRINTING: [usize; 2] = [49_152, 8_192];
 
 /// The report on program bytes, with a table and a trace of these lengths.
 pub fn check(bytes: &[u8], table: usize, trace: usize) -> Report {
     match read(bytes) {
-        Err(number) => Report { answer: Answer::Refused { number }, places: Vec::new(), trace: Vec::new() },
+        Err(number) => Report::refused(number),
         Ok(program) => {
             let available = places_available(table, program.threads.len(), program.locations.into());
             Search::new(&program, available).report(available, trace)
         }
+    }
+}
+
+impl Report {
+    /// The report with the number of a check before the search.
+    pub fn refused(number: u8) -> Report {
+        Report { answer: Answer::Refused { number }, places: Vec::new(), steps: Vec::new() }
+    }
+
+    /// The bytes that the trace gets at its front; none where it is unchanged.
+    pub fn trace(&self) -> Vec<u8> {
+        self.steps.iter().flat_map(Step::bytes).collect()
     }
 }
 
@@ -57,22 +71,23 @@ impl Search {
         let found = self.places.len();
         if available < found || self.ending == Ending::Full {
             let count = available.min(found);
-            return self.written(Answer::Full { count }, count, false);
+            return self.written(Answer::Full { count }, count, Vec::new());
         }
         let Ending::Witness(witness) = self.ending else {
-            return self.written(Answer::Robust { count: found }, found, false);
+            return self.written(Answer::Robust { count: found }, found, Vec::new());
         };
-        let steps = self.schedule(found).len();
-        if trace < steps {
-            self.written(Answer::ShortTrace { wanted: steps..=found }, found, false)
+        let steps = self.steps_to(found);
+        // "Check 10 then wants four bytes for each step".
+        let [wanted, most] = [steps.len(), found].map(|steps| Step::BYTES * steps);
+        if trace < wanted {
+            self.written(Answer::ShortTrace { wanted: wanted..=most }, found, Vec::new())
         } else {
-            self.written(Answer::NotRobust { count: found, steps, witness }, found, true)
+            self.written(Answer::NotRobust { count: found, steps: steps.len(), witness }, found, steps)
         }
     }
 
-    fn written(&self, answer: Answer, count: usize, with_trace: bool) -> Report {
-        let trace = if with_trace { self.schedule(count) } else { Vec::new() };
-        Report { answer, places: self.places[..count].to_vec(), trace }
+    fn written(&self, answer: Answer, count: usize, steps: Vec<Step>) -> Report {
+        Report { answer, places: self.places[..count].to_vec(), steps }
     }
 }
 
@@ -88,7 +103,19 @@ impl Display for Report {
                 writeln!(to, "NR {count} {steps} {thread} {kind} {location} {value}")?;
             }
         }
-        self.trace.iter().try_for_each(|thread| writeln!(to, "ST {thread}"))
+        self.steps.iter().try_for_each(|step| writeln!(to, "ST {step}"))
+    }
+}
+
+/// "An ST line becomes thread, kind, location, value".
+impl Display for Step {
+    fn fmt(&self, to: &mut Formatter) -> fmt::Result {
+        match self.access {
+            Some(Access { kind, location, value }) => {
+                write!(to, "{} {kind} {location} {value}", self.thread)
+            }
+            None => write!(to, "{} L 0 0", self.thread),
+        }
     }
 }
 

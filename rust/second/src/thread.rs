@@ -46,11 +46,11 @@ pub enum Next {
     /// Ops 1 to 4 "change that thread's state only", to this one.
     Local(Thread),
     /// "Any other line makes one access."
-    Access(Access),
+    Access(Due),
 }
 
-/// An access that may be due. What it does depends on the value of the write w that it picks.
-pub struct Access {
+/// An access that is due. What it does depends on the value of the write w that it picks.
+pub struct Due {
     pub location: usize,
     wish: Wish,
     /// "reg, where the line uses it, takes the value that w wrote".
@@ -84,7 +84,7 @@ impl Thread {
         let on = Thread { line: self.line + 1, ..self };
         let assign = |reg, value| Next::Local(on.with(reg, value));
         let access = |location: u8, reg, wish| {
-            Next::Access(Access { location: location.into(), wish, reg, values, after: on })
+            Next::Access(Due { location: location.into(), wish, reg, values, after: on })
         };
         Some(match *lines.get(usize::from(self.line))? {
             Line::Sum { reg, a, b } => assign(reg, (value(a) + value(b)) % values),
@@ -111,7 +111,7 @@ impl Thread {
     }
 }
 
-impl Access {
+impl Due {
     /// What the access does when the write that it picks wrote `found`; nothing where "ops 9 and 10 have a step only
     /// with a w of value A". "A failed CAS is a plain read."
     pub fn action(&self, found: u8) -> Option<Action> {

@@ -26,18 +26,18 @@ pub fn witness(program: &Program, state: &State) -> Option<Witness> {
 /// "the thread's next line allows an access, release/acquire allows it with a w other than the newest, and the newest
 /// write comes before some event of that thread in SC order".
 fn witness_of(program: &Program, state: &State, thread: usize) -> Option<Witness> {
-    let Next::Access(access) = state.next(program, thread)? else {
+    let Next::Access(due) = state.next(program, thread)? else {
         return None;
     };
     let History { graph, sc_order, events_of, .. } = &*state.history;
-    let location = access.location;
+    let location = due.location;
     if !sc_order.before(&events_of[thread]).contains(graph.newest(location)) {
         return None;
     }
     let (_newest, stale) = graph.order(location).split_last()?;
     let usable = stale.iter().enumerate().filter_map(|(place, &w)| {
         let value = graph.written(w);
-        let action = access.action(value)?;
+        let action = due.action(value)?;
         let may = state.history.may_pick(thread, action, graph.later(location, place));
         may.then_some(Witness { thread: thread + 1, kind: action.kind(), location, value })
     });

@@ -1,11 +1,11 @@
-//! Every model of the repository gets the verdict that it expects.
+//! Every model of the repository gets the verdict that it expects, and the report that is stored of it.
 #![forbid(unsafe_code)]
 
 use std::fs;
 
 use models::collection::{self, Verdict};
 use program::read;
-use second::{Ending, Search};
+use second::{check, Ending, Search, PRINTING};
 
 /// More places than any model needs.
 const PLACES: usize = 100_000;
@@ -29,7 +29,7 @@ fn found() -> Vec<(String, Verdict, usize)> {
 #[test]
 fn every_model_gets_its_verdict_and_readme_says_so() {
     let found = found();
-    assert!(found.len() >= 46, "only {} models", found.len());
+    assert!(found.len() >= 50, "only {} models", found.len());
     let text = fs::read_to_string(collection::directory().join("README.md")).unwrap();
     let mut rows = 0;
     for row in text.lines().filter_map(|line| line.strip_prefix("| `")?.strip_suffix(" |")) {
@@ -42,4 +42,14 @@ fn every_model_gets_its_verdict_and_readme_says_so() {
         rows += 1;
     }
     assert_eq!(rows, 24);
+}
+
+#[test]
+fn every_model_gets_its_report_and_readme_has_that_of_sb() {
+    let [table, trace] = PRINTING;
+    for model in collection::load(&collection::directory()).unwrap() {
+        assert_eq!(check(&model.bytes, table, trace).to_string(), model.report, "{}", model.name);
+    }
+    let text = fs::read_to_string(collection::directory().join("README.md")).unwrap();
+    assert!(text.contains(&format!("```\n{}```\n", collection::named("sb").unwrap().report)));
 }

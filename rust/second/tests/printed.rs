@@ -8,6 +8,8 @@ use models::collection;
 const SB: &[u8] = b"PR\x02\x02\x02TH\x02IN\x05\x00\x00\x01\x00IN\x06\x00\x01\x00\x00\
       TH\x02IN\x05\x00\x01\x01\x00IN\x06\x00\x00\x00\x00";
 
+const SB_PRINTED: &str = "NR 7 3 2 R 0 0\nST 1 W 0 1\nST 1 R 1 0\nST 2 W 1 1\n";
+
 fn run(arguments: &[&str], input: &[u8]) -> Output {
     run::run(env!("CARGO_BIN_EXE_second"), arguments, input)
 }
@@ -26,13 +28,13 @@ fn model(name: &str) -> Vec<u8> {
 }
 
 #[test]
-fn sb_has_the_output_of_document_01() {
-    prints(&[], SB, "NR 7 3 2 R 0 0\nST 1\nST 1\nST 2\n");
+fn sb_has_its_output_with_the_access_of_each_step() {
+    prints(&[], SB, SB_PRINTED);
 }
 
 #[test]
 fn the_other_cases_have_theirs() {
-    prints(&[], &model("2+2w"), "NR 8 3 2 W 0 0\nST 1\nST 1\nST 2\n");
+    prints(&[], &model("2+2w"), "NR 8 3 2 W 0 0\nST 1 W 0 1\nST 1 W 1 2\nST 2 W 1 1\n");
     prints(&[], &model("mp"), "RB 13\n");
     prints(&[], &model("barrier"), "RB 7\n");
     prints(&[], b"PR\x01\x01\x02TH\x00", "RB 1\n");
@@ -46,8 +48,7 @@ fn a_read_modify_write_prints_as_m() {
     // x := 1; FADD(y, 0) ‖ y := 1; FADD(x, 0)
     let program = b"PR\x02\x02\x02TH\x02IN\x05\x00\x00\x01\x00IN\x07\x00\x01\x00\x00\
         TH\x02IN\x05\x00\x01\x01\x00IN\x07\x00\x00\x00\x00";
-    let printed = String::from_utf8(run(&[], program).stdout).unwrap();
-    assert!(printed.starts_with("NR 7 3 2 M 0 0\nST 1\n"), "{printed}");
+    prints(&[], program, "NR 7 3 2 M 0 0\nST 1 W 0 1\nST 1 M 1 0\nST 2 W 1 1\n");
 }
 
 #[test]
@@ -59,11 +60,12 @@ fn the_table_of_49152_bytes_can_be_full() {
 
 #[test]
 fn other_lengths_are_arguments() {
-    prints(&["413"], SB, "NR 7 3 2 R 0 0\nST 1\nST 1\nST 2\n");
+    prints(&["413"], SB, SB_PRINTED);
     prints(&["412"], SB, "FU 6\n");
-    prints(&["413", "3"], SB, "NR 7 3 2 R 0 0\nST 1\nST 1\nST 2\n");
-    prints(&["413", "2"], SB, "NO 10\n");
-    for arguments in [&["413", "3", "1"][..], &["many"], &["-1"]] {
+    prints(&["413", "12"], SB, SB_PRINTED);
+    prints(&["413", "11"], SB, "NO 10\n");
+    prints(&["413", "3"], SB, "NO 10\n");
+    for arguments in [&["413", "12", "1"][..], &["many"], &["-1"]] {
         let output = run(arguments, SB);
         assert_eq!(output.status.code(), Some(2));
         assert_eq!(output.stdout, b"");

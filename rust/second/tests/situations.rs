@@ -10,7 +10,7 @@ const ZERO: u16 = 0b01;
 
 /// The situation after the schedule, with threads counted from 1.
 fn after(program: &Program, schedule: &[usize]) -> Situation {
-    let step = |state: State, thread: &usize| state.sc_step(program, thread - 1).expect("a run");
+    let step = |state: State, thread: &usize| state.sc_step(program, thread - 1).expect("a run").1;
     Situation::of(&schedule.iter().fold(State::start(program), step))
 }
 

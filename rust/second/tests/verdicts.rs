@@ -4,7 +4,10 @@
 use models::collection;
 use second::{check, Answer, Kind, Report, Witness};
 
-const TRACE: usize = 4_096;
+const TRACE: usize = 8_192;
+
+/// x := 1 and read y by thread 1, y := 1 by thread 2: the steps of SB.
+const STEPS_OF_SB: [u8; 12] = [1, 2, 0, 1, 1, 1, 1, 0, 2, 2, 1, 1];
 
 /// The bytes of a model. That they are those of document 01 is tested where the models are.
 fn model(name: &str) -> Vec<u8> {
@@ -16,7 +19,7 @@ fn model(name: &str) -> Vec<u8> {
 fn is(report: &Report, answer: Answer, places: usize, trace: &[u8]) {
     assert_eq!(report.answer, answer);
     assert_eq!(report.places.len(), places);
-    assert_eq!(report.trace, trace);
+    assert_eq!(report.trace(), trace);
 }
 
 /// What is named for SB.
@@ -28,18 +31,20 @@ fn of_sb() -> Answer {
 #[test]
 fn sb_has_its_witness_in_situation_7() {
     let sb = model("sb");
-    is(&check(&sb, 413, TRACE), of_sb(), 7, &[1, 1, 2]);
+    is(&check(&sb, 413, TRACE), of_sb(), 7, &STEPS_OF_SB);
     is(&check(&sb, 412, TRACE), Answer::Full { count: 6 }, 6, &[]);
 }
 
 #[test]
-fn sb_needs_a_trace_of_3() {
+fn sb_needs_a_trace_of_12() {
     let sb = model("sb");
-    is(&check(&sb, 413, 2), Answer::ShortTrace { wanted: 3..=7 }, 7, &[]);
-    assert_eq!(check(&sb, 413, 2).places, check(&sb, 413, TRACE).places);
-    is(&check(&sb, 413, 3), of_sb(), 7, &[1, 1, 2]);
+    for trace in 0..12 {
+        is(&check(&sb, 413, trace), Answer::ShortTrace { wanted: 12..=28 }, 7, &[]);
+    }
+    assert_eq!(check(&sb, 413, 11).places, check(&sb, 413, TRACE).places);
+    is(&check(&sb, 413, 12), of_sb(), 7, &STEPS_OF_SB);
     // Check 10 is asked only if the witness is among the first N.
-    is(&check(&sb, 412, 2), Answer::Full { count: 6 }, 6, &[]);
+    is(&check(&sb, 412, 11), Answer::Full { count: 6 }, 6, &[]);
 }
 
 #[test]
@@ -54,7 +59,8 @@ fn mp_has_13_situations() {
 fn in_2_2w_a_write_is_the_witness() {
     let witness = Witness { thread: 2, kind: Kind::Write, location: 0, value: 0 };
     let answer = Answer::NotRobust { count: 8, steps: 3, witness };
-    is(&check(&model("2+2w"), 8 * 59, TRACE), answer, 8, &[1, 1, 2]);
+    // x := 1; y := 2 ‖ y := 1.
+    is(&check(&model("2+2w"), 8 * 59, TRACE), answer, 8, &[1, 2, 0, 1, 1, 2, 1, 2, 2, 2, 1, 1]);
 }
 
 #[test]

@@ -24,7 +24,7 @@ fn cas(location: u8, from: u8, to: u8) -> Line {
 /// What is named after the schedule, with threads counted from 1.
 fn named(threads: Vec<Vec<Line>>, schedule: &[usize]) -> Option<Witness> {
     let program = Program { threads, locations: 3, values: 4 };
-    let step = |state: State, thread: &usize| state.sc_step(&program, thread - 1).expect("a run");
+    let step = |state: State, thread: &usize| state.sc_step(&program, thread - 1).expect("a run").1;
     witness(&program, &schedule.iter().fold(State::start(&program), step))
 }
 

@@ -1,6 +1,6 @@
 //! What the second program says, and whether a checker says the same.
 
-use answer::{EightNumbers, Kind, Report};
+use answer::{steps_in, Access, EightNumbers, Kind, Report, Step};
 use program::{place_size, places_available, read, Program};
 use second::{Answer, Search, Witness};
 
@@ -53,10 +53,7 @@ impl Expected {
     /// The report for these lengths.
     pub fn report(&self, lengths: Lengths) -> second::Report {
         match &self.program {
-            Err(number) => {
-                let answer = Answer::Refused { number: *number };
-                second::Report { answer, places: Vec::new(), trace: Vec::new() }
-            }
+            Err(number) => second::Report::refused(*number),
             Ok((_, search)) => {
                 let (threads, locations) = self.sizes();
                 search.report(places_available(lengths.table, threads, locations), lengths.trace)
@@ -70,12 +67,7 @@ pub(super) fn agrees(found: EightNumbers, expected: &Answer) -> bool {
     Report::of(found).is_some_and(|found| match *expected {
         Answer::Robust { count } => found == Report::Robust { count },
         Answer::NotRobust { count, steps, witness: Witness { thread, kind, location, value } } => {
-            let kind = match kind {
-                second::Kind::Read => Kind::Read,
-                second::Kind::Write => Kind::Write,
-                second::Kind::Update => Kind::Update,
-            };
-            found == Report::NotRobust { count, steps, thread, kind, location, value }
+            found == Report::NotRobust { count, steps, thread, kind: kind_of(kind), location, value }
         }
         Answer::Full { count } => found == Report::Full { count },
         Answer::ShortTrace { ref wanted } => {
@@ -83,4 +75,25 @@ pub(super) fn agrees(found: EightNumbers, expected: &Answer) -> bool {
         }
         Answer::Refused { number } => found == Report::Refused { number },
     })
+}
+
+/// Whether the bytes of a trace, as whoever calls a checker reads them, are the second program's steps.
+pub(super) fn has_steps(trace: &[u8], expected: &[second::Step]) -> bool {
+    let step = |step: &second::Step| {
+        let access = step.access.map(|second::Access { kind, location, value }| Access {
+            kind: kind_of(kind),
+            location: location as u8,
+            value,
+        });
+        Step { thread: step.thread as u8, access }
+    };
+    steps_in(trace) == Some(expected.iter().map(step).collect())
+}
+
+fn kind_of(kind: second::Kind) -> Kind {
+    match kind {
+        second::Kind::Read => Kind::Read,
+        second::Kind::Write => Kind::Write,
+        second::Kind::Update => Kind::Update,
+    }
 }

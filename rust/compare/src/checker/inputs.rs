@@ -5,7 +5,7 @@ use std::fmt::{self, Display, Formatter};
 use models::disassemble;
 use program::Program;
 use random::{program, Numbers, Shape};
-use second::{Answer, Ending};
+use second::{Answer, Ending, Kind, Report, Step};
 
 use super::difference::difference;
 use super::expected::{Expected, Lengths};
@@ -21,7 +21,7 @@ pub fn random_program(numbers: &mut Numbers) -> Program {
 }
 
 /// Several lengths at which something changes for a program: places that just suffice or just don't, none, some, and
-/// more than enough; where the trace is written, one that is just long enough, just too short, or any.
+/// more than enough; where the trace is written, all those of [`trace_lengths`].
 pub fn lengths(numbers: &mut Numbers, expected: &Expected) -> Vec<Lengths> {
     let size = expected.place_size();
     let Some(search) = expected.search() else {
@@ -29,22 +29,31 @@ pub fn lengths(numbers: &mut Numbers, expected: &Expected) -> Vec<Lengths> {
     };
     let found = search.places.len();
     let just = found * size;
-    let steps = search.schedule(found).len();
+    let steps = search.steps_to(found).len();
+    let whole = Step::BYTES * steps;
     // Where the search was cut short, more places would find more.
     let spare = if search.ending == Ending::Full { size - 1 } else { 3 * size + 5 };
     let some = numbers.below(found + 1) * size + numbers.below(size);
     let mut all = vec![
-        Lengths { table: just, trace: steps },
-        Lengths { table: just - 1, trace: steps },
-        Lengths { table: just + numbers.below(spare + 1), trace: steps + 1 + numbers.below(9) },
+        Lengths { table: just, trace: whole },
+        Lengths { table: just - 1, trace: whole },
+        Lengths { table: just + numbers.below(spare + 1), trace: whole + 1 + numbers.below(9) },
         Lengths { table: some.min(just), trace: 0 },
         Lengths { table: numbers.below(size), trace: numbers.below(5) },
     ];
     if let Ending::Witness(_) = search.ending {
-        all.push(Lengths { table: just + spare, trace: steps.saturating_sub(1) });
-        all.push(Lengths { table: just, trace: numbers.below(steps + 1) });
+        let traces = trace_lengths(numbers, steps);
+        all.extend(traces.map(|trace| Lengths { table: just + numbers.below(spare + 1), trace }));
     }
     all
+}
+
+/// Lengths of a trace for so many steps: four bytes for each, a byte less, one to three more, a byte for each, some
+/// more, which do not suffice either, and none.
+pub fn trace_lengths(numbers: &mut Numbers, steps: usize) -> [usize; 8] {
+    let whole = Step::BYTES * steps;
+    let some = steps + numbers.below((whole - steps).max(1));
+    [whole, whole.saturating_sub(1), whole + 1, whole + 2, whole + 3, steps, some, 0]
 }
 
 /// How many lengths of an index there are, no more than lengths of a table.
@@ -73,22 +82,34 @@ pub struct Tally {
     pub refused: usize,
     /// Places compared, once for each time that they were due.
     pub places: usize,
+    /// Steps compared in the same way, by their kinds: L, R, W, M.
+    pub steps: [usize; 4],
     /// Calls with an index, and indexes compared.
     pub indexed: usize,
 }
 
 impl Display for Tally {
     fn fmt(&self, to: &mut Formatter) -> fmt::Result {
-        let Tally { programs, robust, not_robust, full, short_trace, refused, places, indexed } = self;
-        write!(to, "{programs} programs, {places} places, {indexed} indexes; answers: ")?;
-        write!(to, "RB {robust}, NR {not_robust}, FU {full}, 10 {short_trace}, 1 to 9 {refused}")
+        let Tally { programs, robust, not_robust, full, short_trace, refused, places, steps, indexed } = self;
+        let [l, r, w, m] = steps;
+        write!(to, "{programs} programs, {places} places, {indexed} indexes; ")?;
+        write!(to, "answers: RB {robust}, NR {not_robust}, FU {full}, 10 {short_trace}, 1 to 9 {refused}; ")?;
+        write!(to, "steps: L {l}, R {r}, W {w}, M {m}")
     }
 }
 
 impl Tally {
-    fn note(&mut self, answer: &Answer, places: usize) {
-        self.places += places;
-        *match answer {
+    fn note(&mut self, report: &Report) {
+        self.places += report.places.len();
+        for step in &report.steps {
+            self.steps[match step.access.map(|access| access.kind) {
+                None => 0,
+                Some(Kind::Read) => 1,
+                Some(Kind::Write) => 2,
+                Some(Kind::Update) => 3,
+            }] += 1;
+        }
+        *match report.answer {
             Answer::Robust { .. } => &mut self.robust,
             Answer::NotRobust { .. } => &mut self.not_robust,
             Answer::Full { .. } => &mut self.full,
@@ -112,8 +133,7 @@ pub fn compare_program(bytes: &[u8], numbers: &mut Numbers, tally: &mut Tally) -
             let text = disassemble(bytes).unwrap_or_else(|number| format!("refused by check {number}"));
             return Err(format!("{difference}\nwith {lengths:?} for {bytes:?}\n{text}"));
         }
-        let report = expected.report(lengths);
-        tally.note(&report.answer, report.places.len());
+        tally.note(&expected.report(lengths));
         tally.indexed += indexes.len();
     }
     Ok(())

@@ -3,7 +3,7 @@
 use answer::EightNumbers;
 use second::Report;
 
-use super::expected::{agrees, Expected, Lengths};
+use super::expected::{agrees, has_steps, Expected, Lengths};
 use super::lent::Lent;
 use super::place::decode;
 
@@ -43,9 +43,13 @@ impl Run {
         if !agrees(self.answer, &report.answer) {
             return Some(format!("answer: expected {:?}, found {:?}", report.answer, self.answer));
         }
-        let found = self.trace.front(report.trace.len());
-        if found != report.trace {
-            return Some(format!("trace: expected {:?}, found {found:?}", report.trace));
+        let trace = report.trace();
+        let found = self.trace.front(trace.len());
+        if found != trace {
+            return Some(format!("trace: expected {trace:?}, found {found:?}"));
+        }
+        if !has_steps(found, &report.steps) {
+            return Some(format!("trace: {found:?} is not read as {:?}", report.steps));
         }
         self.place_difference(report, expected).or_else(|| self.changed(report, expected))
     }
@@ -59,7 +63,8 @@ impl Run {
         if self.table.front(places) != first.table.front(places) {
             return Some("what was lent changes the places".into());
         }
-        if self.trace.front(report.trace.len()) != report.trace {
+        let trace = report.trace();
+        if self.trace.front(trace.len()) != trace {
             return Some("what was lent changes the trace".into());
         }
         self.changed(report, expected)
@@ -68,7 +73,7 @@ impl Run {
     /// A byte that had to stay as it was.
     fn changed(&self, report: &Report, expected: &Expected) -> Option<String> {
         let table = self.table.changed(report.places.len() * expected.place_size());
-        let trace = self.trace.changed(report.trace.len());
+        let trace = self.trace.changed(report.trace().len());
         let what = |what, at: Option<isize>| at.map(|at| format!("{what}: byte {at} changed"));
         what("table", table).or(what("trace", trace))
     }

@@ -14,6 +14,12 @@ fn answer(bytes: &[u8], table: usize, trace: usize) -> ([u64; 8], Vec<u8>) {
     (numbers(bytes, &mut table, &mut trace), trace)
 }
 
+/// The trace of SB: x := 1; read y ‖ y := 1.
+const OF_SB: [u8; 12] = [1, 2, 0, 1, 1, 1, 1, 0, 2, 2, 1, 1];
+
+/// The trace of 2+2W: x := 1; y := 2 ‖ y := 1.
+const OF_2_2W: [u8; 12] = [1, 2, 0, 1, 1, 2, 1, 2, 2, 2, 1, 1];
+
 const RB: u64 = 0;
 const NR: u64 = 1;
 const FU: u64 = 2;
@@ -22,12 +28,16 @@ const REFUSED: u64 = 3;
 #[test]
 fn sb() {
     let sb = model("sb");
-    assert_eq!(answer(&sb, 413, 4), ([NR, 0, 7, 3, 2, 1, 0, 0], vec![1, 1, 2, 9]));
-    assert_eq!(answer(&sb, 412, 4), ([FU, 11, 6, 0, 0, 0, 0, 0], vec![9; 4]));
-    assert_eq!(answer(&sb, 413, 3), ([NR, 0, 7, 3, 2, 1, 0, 0], vec![1, 1, 2]));
-    let ([verdict, number, count, wanted, rest @ ..], trace) = answer(&sb, 413, 2);
-    assert_eq!((verdict, number, count, rest, trace), (REFUSED, 10, 0, [0; 4], vec![9; 2]));
-    assert!((3..=7).contains(&wanted), "{wanted}");
+    for more in 0..=4 {
+        let trace = [OF_SB.as_slice(), &vec![9; more]].concat();
+        assert_eq!(answer(&sb, 413, 12 + more), ([NR, 0, 7, 3, 2, 1, 0, 0], trace));
+        assert_eq!(answer(&sb, 412, 12 + more), ([FU, 11, 6, 0, 0, 0, 0, 0], vec![9; 12 + more]));
+    }
+    for short in 0..12 {
+        let ([verdict, number, count, wanted, rest @ ..], trace) = answer(&sb, 413, short);
+        assert_eq!((verdict, number, count, rest, trace), (REFUSED, 10, 0, [0; 4], vec![9; short]));
+        assert!((12..=28).contains(&wanted), "{wanted}");
+    }
 }
 
 #[test]
@@ -38,7 +48,7 @@ fn mp() {
 
 #[test]
 fn two_writes_barrier_and_the_empty_thread() {
-    assert_eq!(answer(&model("2+2w"), 49_152, 3), ([NR, 0, 8, 3, 2, 2, 0, 0], vec![1, 1, 2]));
+    assert_eq!(answer(&model("2+2w"), 49_152, 12), ([NR, 0, 8, 3, 2, 2, 0, 0], OF_2_2W.to_vec()));
     assert_eq!(answer(&model("barrier"), 49_152, 0).0, [RB, 0, 7, 0, 0, 0, 0, 0]);
     assert_eq!(answer(b"PR\x01\x01\x02TH\x00", 26, 0).0, [RB, 0, 1, 0, 0, 0, 0, 0]);
     assert_eq!(answer(b"PR\x01\x01\x02TH\x00", 25, 0).0, [FU, 11, 0, 0, 0, 0, 0, 0]);

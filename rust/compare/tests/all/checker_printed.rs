@@ -1,4 +1,4 @@
-//! The printing program against the lines that the second program prints.
+//! The printing program against the lines that the second program prints, and against the stored reports.
 
 use std::path::Path;
 
@@ -9,19 +9,37 @@ use program::encode;
 use random::{damage, Numbers};
 use second::{check, PRINTING};
 
+fn printed(bytes: &[u8]) -> String {
+    String::from_utf8(run::run_at(Path::new("."), &program(), &[], bytes).stdout).unwrap()
+}
+
 #[track_caller]
 fn same(bytes: &[u8]) {
-    let printed = run::run_at(Path::new("."), &program(), &[], bytes).stdout;
     let [table, trace] = PRINTING;
-    let expected = check(bytes, table, trace).to_string();
-    assert_eq!(String::from_utf8_lossy(&printed), expected, "of the bytes {bytes:?}");
+    assert_eq!(printed(bytes), check(bytes, table, trace).to_string(), "of the bytes {bytes:?}");
 }
 
 #[test]
 fn on_every_model() {
     let models = collection::load(&collection::directory()).unwrap();
-    assert!(models.len() >= 46, "only {} models", models.len());
+    assert!(models.len() >= 50, "only {} models", models.len());
     models.iter().for_each(|model| same(&model.bytes));
+}
+
+#[test]
+fn every_model_has_its_report() {
+    for model in collection::load(&collection::directory()).unwrap() {
+        assert_eq!(printed(&model.bytes), model.report, "{}", model.name);
+    }
+}
+
+#[test]
+fn a_run_of_some_700_steps_is_printed_whole() {
+    let printed = printed(&collection::named("long-run").unwrap().bytes);
+    let lines: Vec<&str> = printed.lines().collect();
+    assert_eq!(lines.len(), 706);
+    assert_eq!(lines[0], "NR 711 705 2 R 0 1");
+    assert_eq!(lines[701..], ["ST 1 W 0 1", "ST 2 R 0 1", "ST 1 W 0 2", "ST 1 R 1 2", "ST 2 W 1 15"]);
 }
 
 #[test]

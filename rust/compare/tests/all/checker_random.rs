@@ -21,6 +21,20 @@ fn on_random_programs() {
 }
 
 #[test]
+fn on_programs_with_long_traces() {
+    let mut numbers = Numbers::new(3);
+    let mut tally = Tally::default();
+    for number in 1..=1_000 {
+        let bytes = encode(&program(&mut numbers, &Shape::winding()));
+        if let Err(difference) = compare_program(&bytes, &mut numbers, &mut tally) {
+            panic!("program {number}: {difference}");
+        }
+    }
+    assert!(tally.not_robust >= 1_000 && tally.short_trace >= 500, "{tally}");
+    assert!(tally.steps.iter().all(|&steps| steps >= 1_000), "{tally}");
+}
+
+#[test]
 fn on_damaged_programs() {
     let mut numbers = Numbers::new(2);
     let mut tally = Tally::default();

@@ -6,7 +6,7 @@ use std::fs;
 use std::io::{self, Read};
 use std::process::ExitCode;
 
-use order_check::{check_indexed, Kind, Report};
+use order_check::{check_indexed, steps_in, Report, Step};
 use program::place_size;
 
 const USAGE: &str = "usage: order_large TABLE [FILE]
@@ -33,7 +33,7 @@ fn main() -> ExitCode {
     };
     match program {
         Ok(program) => {
-            let (mut table, mut trace) = (vec![0; length], vec![0; length / SMALLEST_PLACE]);
+            let (mut table, mut trace) = (vec![0; length], vec![0; Step::BYTES * (length / SMALLEST_PLACE)]);
             let mut index = vec![0; SLOTS_FOR_A_PLACE * (length / place_size_of(&program))];
             print(check_indexed(&program, &mut table, &mut trace, &mut index), &trace);
             ExitCode::SUCCESS
@@ -59,19 +59,9 @@ fn place_size_of(program: &[u8]) -> usize {
 }
 
 fn print(report: Report, trace: &[u8]) {
-    match report {
-        Report::Robust { count } => println!("RB {count}"),
-        Report::Full { count } => println!("FU {count}"),
-        Report::Short { .. } => println!("NO 10"),
-        Report::Refused { number } => println!("NO {number}"),
-        Report::NotRobust { count, steps, thread, kind, location, value } => {
-            let letter = match kind {
-                Kind::Read => 'R',
-                Kind::Write => 'W',
-                Kind::Update => 'M',
-            };
-            println!("NR {count} {steps} {thread} {letter} {location} {value}");
-            trace.iter().take(steps).for_each(|thread| println!("ST {thread}"));
-        }
+    println!("{report}");
+    if let Report::NotRobust { steps, .. } = report {
+        let run = steps_in(&trace[..Step::BYTES * steps]).expect("the proved library writes whole steps");
+        run.iter().for_each(|step| println!("{step}"));
     }
 }

@@ -7,7 +7,7 @@ mod runs;
 use models::collection::{self, Verdict};
 use program::{read, Line, Program};
 use random::{program, Numbers, Shape};
-use second::{Ending, Search, Situation, State};
+use second::{Access, Ending, Kind, Search, Situation, State, Step};
 
 /// More than any program here needs.
 const PLACES: usize = 100_000;
@@ -76,22 +76,22 @@ fn the_models_get_their_verdicts_from_all_runs() {
     assert!(asked >= 20, "only {asked} models are that small");
 }
 
-/// Each situation with the first schedule that reaches it, found by going through all schedules of at most `length`
-/// steps in their order.
-fn numbered(program: &Program, length: usize) -> Vec<(Vec<u8>, Situation)> {
-    let mut found: Vec<(Vec<u8>, Situation)> = Vec::new();
+/// Each situation with the steps of the first schedule that reaches it, found by going through all schedules of at most
+/// `length` steps in their order.
+fn numbered(program: &Program, length: usize) -> Vec<(Vec<Step>, Situation)> {
+    let mut found: Vec<(Vec<Step>, Situation)> = Vec::new();
     let mut runs = vec![(Vec::new(), State::start(program))];
     for _ in 0..=length {
-        for (schedule, state) in &runs {
+        for (steps, state) in &runs {
             let situation = Situation::of(state);
             if found.iter().all(|(_, known)| *known != situation) {
-                found.push((schedule.clone(), situation));
+                found.push((steps.clone(), situation));
             }
         }
-        let longer = |(schedule, state): &(Vec<u8>, State)| {
+        let longer = |(steps, state): &(Vec<Step>, State)| {
             let step = |thread: usize| {
-                let after = state.sc_step(program, thread)?;
-                Some(([schedule.as_slice(), &[thread as u8 + 1]].concat(), after))
+                let (access, after) = state.sc_step(program, thread)?;
+                Some(([steps.as_slice(), &[Step { thread: thread + 1, access }]].concat(), after))
             };
             (0..program.threads.len()).filter_map(step).collect::<Vec<_>>()
         };
@@ -115,12 +115,13 @@ fn situations_are_numbered_by_their_first_schedules() {
         if search.ending == Ending::Whole {
             assert_eq!(search.places.len(), expected.len(), "{program:?}");
         }
-        for (place, (schedule, situation)) in search.places.iter().zip(&expected) {
+        for (place, (steps, situation)) in search.places.iter().zip(&expected) {
             assert_eq!(*place.situation, *situation, "{program:?}");
-            assert_eq!(place.by, usize::from(schedule.last().copied().unwrap_or(0)));
+            let last = steps.last().map_or((0, None), |step| (step.thread, step.access));
+            assert_eq!((place.by, place.access), last, "{program:?}");
         }
         let last = search.places.len();
-        assert_eq!(search.schedule(last), expected[last - 1].0);
+        assert_eq!(search.steps_to(last), expected[last - 1].0);
         compared += 1;
     }
     assert!(compared >= 80, "only {compared} programs are that small");
@@ -132,11 +133,55 @@ fn situations_of_loops_are_numbered_by_their_first_schedules() {
         let program = read(&collection::named(name).unwrap().bytes).unwrap();
         let search = Search::new(&program, PLACES);
         let last = search.places.len();
-        let expected = numbered(&program, search.schedule(last).len());
-        for (number, (schedule, situation)) in expected.iter().take(last).enumerate() {
+        let expected = numbered(&program, search.steps_to(last).len());
+        for (number, (steps, situation)) in expected.iter().take(last).enumerate() {
             assert_eq!(*search.places[number].situation, *situation, "{name}");
-            assert_eq!(search.schedule(number + 1), *schedule, "{name}");
+            assert_eq!(search.steps_to(number + 1), *steps, "{name}");
         }
         assert!(expected.len() >= last, "{name}");
+    }
+}
+
+/// What a step shows, as the event that a run gets by it has it: a read has a value read, a write one written, and a
+/// read-modify-write both.
+fn shown(event: runs::Event) -> Access {
+    let (kind, value) = match (event.read, event.written) {
+        (Some((value, _)), None) => (Kind::Read, value),
+        (None, Some(value)) => (Kind::Write, value),
+        (_, value) => (Kind::Update, value.expect("an event reads or writes")),
+    };
+    Access { kind, location: event.location.into(), value }
+}
+
+/// The steps of a schedule are those of the SC run by it, each with the access that it adds to the graph there.
+#[track_caller]
+fn shows_its_run(program: &Program, steps: &[Step]) {
+    let schedule: Vec<usize> = steps.iter().map(|step| step.thread - 1).collect();
+    let events = runs::events_along(program, &schedule);
+    let accesses: Vec<_> = steps.iter().map(|step| step.access).collect();
+    let expected: Vec<_> = events.into_iter().map(|event| event.map(shown)).collect();
+    assert_eq!(accesses, expected, "{program:?}");
+}
+
+#[test]
+fn steps_show_the_accesses_of_their_run() {
+    let mut steps = 0;
+    for program in tiny(7, 100, RACES).chain(tiny(8, 100, THREES)).chain(tiny(9, 100, TWOS)) {
+        let search = Search::new(&program, PLACES);
+        for number in 1..=search.places.len() {
+            let run = search.steps_to(number);
+            shows_its_run(&program, &run);
+            steps += run.len();
+        }
+    }
+    assert!(steps >= 50_000, "only {steps} steps");
+}
+
+#[test]
+fn steps_of_every_model_show_the_accesses_of_their_run() {
+    for model in collection::load(&collection::directory()).unwrap() {
+        let program = read(&model.bytes).unwrap();
+        let search = Search::new(&program, 1_000);
+        shows_its_run(&program, &search.steps_to(search.places.len()));
     }
 }
