@@ -5,7 +5,7 @@ use native.Mathlib.Numerals.{towards-suc}
 use native.Mathlib.Omega.{arith}
 use mathlib.Core.Path.{_≡_, refl, ap, sym, _∙_}
 use mathlib.Core.List.{List, [], _∷_, _++_, map, append-assoc}
-use lib.ListN.{length, take, drop, set, replicate}
+use lib.ListN.{length, take, drop, set, replicate, length-drop}
 use lib.Seq.{sets, sets-eq, take-set-le, take-nil, take-at, drop-at, length-take-le}
 
 -- One run behind another.
@@ -66,3 +66,11 @@ drop-replicate zero n v = let e : n ≡ n - 0 = omega arith in ap (λ (m : ℕ).
 drop-replicate (suc k) zero v = let e : 0 ≡ 0 - suc k = omega arith in ap (λ (m : ℕ). replicate m v) e
 drop-replicate (suc k) (suc n) v =
     let e : n - k ≡ suc n - suc k = omega arith in drop-replicate k n v ∙ ap (λ (m : ℕ). replicate m v) e
+
+-- A part that fits is as long as it says.
+pub part-whole : (at size : ℕ) (l : List ℕ) → at + size ≤ length l
+    → length (take (at + size - at) (drop at l)) ≡ size
+part-whole at size l fits =
+    let e : at + size - at ≡ size = omega arith in
+    ap (λ (n : ℕ). length (take n (drop at l))) e
+    ∙ length-take-le size (drop at l) (omega (arith, length-drop at l))

@@ -12,3 +12,4 @@ pub mod Choices
 pub mod Reachable
 pub mod Schedules
 pub mod Labels
+pub mod Shown

@@ -1,6 +1,6 @@
-// The program as data and as bytes, and what a thread's next line does: definitions, the round trip between programs
-// and bytes, and the types that code shares with them. Main results: read-spelling and accepted-is-spelling
-// (RoundTrip), longer-judged-by-front (Longer).
+// The program as data and as bytes, what a thread's next line does, and the records of steps with their bytes:
+// definitions, the round trip between programs and bytes, and what code shares with them. Main results: read-spelling
+// and accepted-is-spelling (RoundTrip), longer-judged-by-front (Longer).
 ghost use mathlib.Core.Path.{_≡_};
 ghost use Rattle.program.specs.Steps.{kindNumber};
 

@@ -46,7 +46,7 @@ examples =
     ∷ example (Full 0) [] "FU 0\n"
     -- "One byte after the last record: 9."
     ∷ example (Refused 9) [] "NO 9\n"
-    -- "SB with a trace of 2: 10."
+    -- "Check 10 then wants four bytes for each step (12 for SB)"
     ∷ example (Short 12) (0 ∷ 0 ∷ []) "NO 10\n"
     -- digits of every kind, an update, and a trace that is longer than the run
     ∷ example (notRobust 1005 1 8 Update 7 15) (8 ∷ 3 ∷ 7 ∷ 15 ∷ 1 ∷ 2 ∷ 0 ∷ 250 ∷ [])

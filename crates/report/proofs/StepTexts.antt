@@ -1,16 +1,21 @@
 -- The ST lines of steps whose bytes the trace has: each tells the step's thread and what it shows. So every kind in them
 -- has its own letter.
-use Prim.Native.Nat.{ℕ, suc}
-use mathlib.Core.Path.{_≡_, refl, ap, _∙_}
+use Prim.Native.Nat.{ℕ, suc, _*_}
+use mathlib.Core.Path.{_≡_, refl, ap, ap₂, sym, _∙_}
 use mathlib.Core.List.{List, [], _∷_, _++_, flatMap, append-assoc}
-use lib.ListN.{length}
-use Rattle.program.specs.declared.Kind.{Kind}
+use lib.ListN.{length, drop, take-append-drop}
+use Rattle.program.specs.Program.{Program}
 use Rattle.program.specs.declared.Kind.the-variants.{Read, Write, Update}
 use Rattle.program.specs.declared.Label.{Label}
 use Rattle.program.specs.declared.Label.the-variants.{Local, Access}
 use Rattle.program.specs.ThreadNumber.{threadNumber}
-use Rattle.program.specs.Steps.{StepRecord, kindNumber, labelBytes, stepBytes, bytesOfSteps}
-use Rattle.report.specs.Text.{decimal, line, letterOf, markST, stepLine, stepLines}
+use Rattle.program.specs.Steps.{StepRecord, stepSize, kindNumber, labelBytes, stepBytes, bytesOfSteps}
+use Rattle.model.specs.Labels.{recordsOf}
+use Rattle.model.proofs.Labels.{records-counted}
+use Rattle.rules.specs.declared.Ending.{Ending}
+use Rattle.verdicts.specs.Promises.{Shown}
+use Rattle.verdicts.specs.declared.Report.the-variants.{Ended}
+use Rattle.report.specs.Text.{decimal, line, letterOf, markST, stepLine, stepLines, endingLine, textOf}
 
 -- "R with the value read, W and M with the value written, and L 0 0 for a local line"
 unfoldable pub accessFields : Label → List (List ℕ)
@@ -39,3 +44,16 @@ lines-of-steps (s ∷ steps) others =
     ap (stepLines (suc (length steps))) (append-assoc (stepBytes s) (bytesOfSteps steps) others)
     ∙ first-line (length steps) (s .thread) (s .label) (bytesOfSteps steps ++ others)
     ∙ ap (λ (lines : List ℕ). lineOf s ++ lines) (lines-of-steps steps others)
+
+-- So for NR the ST lines tell the steps of the very run that the promise gives.
+pub text-of-run : {p : Program} {trace : List ℕ} (count : ℕ) {steps : ℕ} {e : Ending} (s : Shown p trace steps e)
+    → textOf (Ended count steps e) trace ≡ endingLine count steps e ++ flatMap lineOf (recordsOf (s .shows .run))
+unfolding textOf
+text-of-run {trace = trace} count {steps} {e} s =
+    let records = recordsOf (s .shows .run) in
+    let counted : steps ≡ length records = sym (records-counted (s .shows .run) ∙ s .counted) in
+    let rest = drop (stepSize * steps) trace in
+    let front : trace ≡ bytesOfSteps records ++ rest =
+    sym (take-append-drop (stepSize * steps) trace) ∙ ap (λ (l : List ℕ). l ++ rest) (s .in-trace) in
+    ap (λ (l : List ℕ). endingLine count steps e ++ l)
+    (ap₂ stepLines counted front ∙ lines-of-steps records rest)

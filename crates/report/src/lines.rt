@@ -22,7 +22,7 @@ pub fn put_line(out: &mut [u8], at: usize, mark: &[u8], n: usize) -> usize
     put_byte(out, next, b'\n')
 }
 
-// "kinds 0 to 3 for L, R, W, M"
+// "kinds 0 to 3 for L, R, W, M"; any other byte, which no trace of ours has, gets a question mark.
 fn letter_of(kind: u8) -> u8
     ensures { λ r. ⌜ r ≡ letterOf kind ⌝ }
 {

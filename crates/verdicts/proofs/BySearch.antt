@@ -13,7 +13,6 @@ use Rattle.program.specs.Steps.{StepRecord, stepSize, kindNumber, labelBytes, b
 use Rattle.rules.specs.Situation.{Situation}
 use Rattle.rules.specs.declared.Ending.{Ending}
 use Rattle.rules.proofs.Searched.{searchedOn, shownOn}
-use Rattle.situations.specs.Schedule.{recordsBy}
 use Rattle.numbering.specs.Numbering.{Entry}
 use Rattle.numbering.specs.Verdict as numbering
 use Rattle.numbering.specs.Verdict.{Verdict, found, full, closed}
@@ -28,18 +27,25 @@ pub record Result : Type 0 where
   pub answer : Answer
   pub trace : List ℕ
 
--- What a verdict comes to, where that trace is lent and the steps of a schedule show that.
-abbrev handedBack : (shown : List ℕ → List StepRecord) (trace : List ℕ) → Verdict (Entry Situation) Ending → Result
-handedBack shown trace v =
+-- The trace by the search: what the steps show is computed on situations.
+unfoldable tracedOn : Program → numbering.Outcome (Entry Situation) Ending → List ℕ → List ℕ
+tracedOn p closed trace = trace
+tracedOn p full trace = trace
+tracedOn p (found x e) trace =
+    cond (leb (stepSize * length (x .path)) (length trace)) (written (bytesOfSteps (shownOn p (x .path))) trace) trace
+
+-- What a verdict comes to, where that trace is lent.
+abbrev handedBack : Program → (trace : List ℕ) → Verdict (Entry Situation) Ending → Result
+handedBack p trace v =
     record {
       answer = reported (length (v .places)) (length trace) (v .outcome);
-      trace = tracedBy shown (v .outcome) trace;
+      trace = tracedOn p (v .outcome) trace;
     }
 
 -- Where a witness was found, the steps to it show what single steps on situations show.
 same-trace : {p : Program} → Valid p → (N : ℕ) (trace : List ℕ) (o : numbering.Outcome (Entry Situation) Ending)
-    → verdictOf p N .outcome ≡ o → tracedBy (recordsBy p) o trace ≡ tracedBy (shownOn p) o trace
-unfolding tracedBy
+    → verdictOf p N .outcome ≡ o → tracedBy p o trace ≡ tracedOn p o trace
+unfolding tracedBy tracedOn
 same-trace valid N trace closed e = refl
 same-trace valid N trace full e = refl
 same-trace valid N trace (found x f) e =
@@ -49,11 +55,11 @@ same-trace valid N trace (found x f) e =
 
 unfoldable searched : Outcome Program → (tableLength : ℕ) (trace : List ℕ) → Result
 searched (refused number) tableLength trace = record { answer = turnedDown number; trace = trace }
-searched (accepted p) tableLength trace = handedBack (shownOn p) trace (searchedOn p (placesIn p tableLength))
+searched (accepted p) tableLength trace = handedBack p trace (searchedOn p (placesIn p tableLength))
 
 -- Opened, it computes.
 unfoldable pub resultBySearch : (bytes : List ℕ) (tableLength : ℕ) (trace : List ℕ) → Result
-unfolding searched readOn searchedOn placesIn placeSize reported tracedBy shownOn kindNumber labelBytes flatMap
+unfolding searched readOn searchedOn placesIn placeSize reported tracedOn shownOn kindNumber labelBytes flatMap
 resultBySearch bytes = searched (readOn bytes)
 
 abbrev resultOf : Outcome Program → (tableLength : ℕ) (trace : List ℕ) → Result
@@ -71,7 +77,7 @@ outcome-by-search bytes (accepted p) e tableLength trace =
     ap
     (λ (after : List ℕ). record { answer = reported (length (v .places)) (length trace) (v .outcome); trace = after })
     (same-trace valid N trace (v .outcome) refl)
-    ∙ ap (handedBack (shownOn p) trace) (by-search valid N)
+    ∙ ap (handedBack p trace) (by-search valid N)
 
 pub result-by-search : (bytes : List ℕ) (tableLength : ℕ) (trace : List ℕ)
     → resultOf (readProgram bytes) tableLength trace ≡ resultBySearch bytes tableLength trace

@@ -124,14 +124,13 @@ getting bytes tableLength trace answer traceAtExit =
 -- "The place size for T = L = 2 is 59", and for T = L = 1 it is 26.
 unfoldable pub cases : List Case
 cases =
-    -- "SB .. 413 lent bytes: NR, count 7." "NR 7 3 2 R 0 0", with the steps "ST 1 W 0 1", "ST 1 R 1 0", "ST 2 W 1 1".
-    -- "412: 11, count 6."
+    -- "SB .. 413 lent bytes: NR, count 7." "NR 7 3 2 R 0 0", with its three steps. "412: 11, count 6."
     getting sb 413 lent (notRobust 7 3 2 Read x 0) (sbSteps ++ 6 ∷ 5 ∷ [])
     ∷ staying sb 412 lent (placesFull 6)
     -- "MP .. 767: RB 13." "766: 11, count 12."
     ∷ staying mp 767 lent (robust 13)
     ∷ staying mp 766 lent (placesFull 12)
-    -- "2+2W .. NR 8 3 2 W 0 0 with steps 1, 1, 2.": eight places; "1 W 0 1", "1 W 1 2", "2 W 1 1"
+    -- "2+2W .. NR 8 3 2 W 0 0 with steps 1, 1, 2.": eight places.
     ∷ getting twoPlusTwoW 472 lent (notRobust 8 3 2 Write x 0) (twoPlusTwoWSteps ++ 6 ∷ 5 ∷ [])
     -- "Barrier .. RB 7.": seven places
     ∷ staying barrier 413 lent (robust 7)

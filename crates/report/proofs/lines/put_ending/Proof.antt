@@ -10,7 +10,8 @@ returns c =
     let second = c .before .before in
     let first = second .before .before .before .before .before in
     let a = first .before .before .before .before .args in (
-      ending-put (a .count) (a .steps) (a .ending) (second .before .kind-number .ensures) (first .put-run .ensures) (second .put-access .ensures),
+      ending-put (a .count) (a .steps) (a .ending) (second .before .kind-number .ensures) (first .put-run .ensures)
+          (second .put-access .ensures),
       ending-is-short (a .count) (a .steps) (a .ending) (search needs) (search needs) (search needs) (search needs)
           (search needs),
     )
