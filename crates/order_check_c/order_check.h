@@ -118,7 +118,9 @@ enum {
  *     the bytes are no program.
  *
  * trace, trace_len: for ORDER_NR its first ORDER_STEP_BYTES * answer[ORDER_STEPS] bytes get the steps of the run, one
- *     after the other; its other bytes stay as they are, and for every other verdict all of them do.
+ *     after the other; its other bytes stay as they are, and for every other verdict all of them do. A trace of
+ *     ORDER_STEP_BYTES for each place is never too short. One that is too short gets ORDER_TRACE_SHORT: lend as many
+ *     bytes as answer[ORDER_STEPS] says, and call again.
  *
  * answer: gets ORDER_FIELDS numbers.
  *

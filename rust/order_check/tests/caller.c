@@ -97,13 +97,19 @@ static char letter(uint8_t kind)
     }
 }
 
-/* Checks a program that is not robust, and prints the steps of the run, each with its access. */
+/* Checks a program that is not robust, and prints the steps of the run, each with its access. Only for ORDER_NR are
+   there steps in the trace, and ORDER_STEPS counts them. */
 static void print_run(const uint8_t *program, size_t length)
 {
     static uint8_t large_table[4096];
     static uint8_t large_trace[4096];
     uint64_t answer[ORDER_FIELDS];
     order_check(program, length, large_table, sizeof large_table, large_trace, sizeof large_trace, answer);
+    if (answer[ORDER_VERDICT] != ORDER_NR) {
+        failures++;
+        printf("no run: verdict %d\n", (int)answer[ORDER_VERDICT]);
+        return;
+    }
     for (uint64_t at = 0; at < answer[ORDER_STEPS]; at++) {
         const uint8_t *step = large_trace + ORDER_STEP_BYTES * at;
         printf("ST %d %c %d %d\n", step[ORDER_STEP_THREAD], letter(step[ORDER_STEP_KIND]),

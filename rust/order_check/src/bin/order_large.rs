@@ -10,8 +10,8 @@ use order_check::{check_indexed, steps_in, Report, Step};
 use program::place_size;
 
 const USAGE: &str = "usage: order_large TABLE [FILE]
-TABLE is the length of the table in bytes. Beside it the search gets an index of two slots, 16 bytes, for each place of
-the table. Without FILE the program is read from standard input.";
+TABLE is the length of the table in bytes. Beside it the search gets an index of two slots, 16 bytes, and a trace of
+four bytes for each place of the table. Without FILE the program is read from standard input.";
 
 /// No place is shorter, and a run to a place has fewer steps than there are places.
 const SMALLEST_PLACE: usize = place_size(1, 1);
