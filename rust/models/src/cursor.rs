@@ -2,9 +2,11 @@
 
 use crate::lexer::{tokens, Piece, Token};
 use crate::mistake::Mistake;
+use crate::source::Statement;
 
 /// The tokens from the next one on.
 pub struct Cursor<'a> {
+    text: &'a str,
     tokens: Vec<Token<'a>>,
     next: usize,
 }
@@ -12,7 +14,7 @@ pub struct Cursor<'a> {
 impl<'a> Cursor<'a> {
     /// At the start of the text.
     pub fn new(text: &'a str) -> Cursor<'a> {
-        Cursor { tokens: tokens(text), next: 0 }
+        Cursor { text, tokens: tokens(text), next: 0 }
     }
 
     /// The next token. After the end of the file comes the end of the file.
@@ -66,6 +68,13 @@ impl<'a> Cursor<'a> {
     pub fn at_label(&self) -> bool {
         let after = self.tokens.get(self.next + 1).map(|token| token.piece);
         matches!(self.peek().piece, Piece::Word(_)) && after == Some(Piece::Sign(":"))
+    }
+
+    /// The line of a thread that starts with the next token, as it is written, without a comment and blanks around it.
+    pub fn statement(&self) -> Statement {
+        let token = self.peek();
+        let rest = self.text[token.offset..].split(['\n', '#']).next().unwrap_or_default();
+        Statement { line: token.place.line, text: rest.trim_end().into() }
     }
 
     /// The mistake that the next token is.

@@ -36,6 +36,8 @@ impl fmt::Display for Piece<'_> {
 pub struct Token<'a> {
     pub piece: Piece<'a>,
     pub place: Place,
+    /// Where it starts, in bytes from the start of the text.
+    pub offset: usize,
 }
 
 /// The signs, a longer one before its own start.
@@ -65,7 +67,7 @@ pub fn tokens(text: &str) -> Vec<Token<'_>> {
     while let Some(first) = rest.chars().next() {
         let (piece, length) = piece_at(rest, first);
         if let Some(piece) = piece {
-            tokens.push(Token { piece, place });
+            tokens.push(Token { piece, place, offset: text.len() - rest.len() });
         }
         if first == '\n' {
             place = Place { line: place.line + 1, column: 1 };
@@ -74,7 +76,7 @@ pub fn tokens(text: &str) -> Vec<Token<'_>> {
         }
         rest = &rest[length..];
     }
-    tokens.push(Token { piece: Piece::EndOfFile, place });
+    tokens.push(Token { piece: Piece::EndOfFile, place, offset: text.len() });
     tokens
 }
 

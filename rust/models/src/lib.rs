@@ -12,11 +12,13 @@ mod lexer;
 mod mistake;
 mod names;
 mod parser;
+mod source;
 
 pub use disassemble::disassemble;
 pub use mistake::{Mistake, Place};
+pub use source::{Source, Statement};
 
 /// The program bytes of a model, or its first mistake.
 pub fn assemble(text: &[u8]) -> Result<Vec<u8>, Mistake> {
-    Ok(program::encode(&parser::parse(lexer::text_of(text)?)?))
+    Ok(program::encode(&Source::of_text(text)?.program))
 }

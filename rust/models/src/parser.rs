@@ -8,9 +8,10 @@ use crate::instruction::{Instruction, Scope, A_LABEL};
 use crate::lexer::{Piece, Token};
 use crate::mistake::Mistake;
 use crate::names::why_taken;
+use crate::source::{Source, Statement};
 
-/// The program that the text is a model of, or its first mistake.
-pub fn parse(text: &str) -> Result<Program, Mistake> {
+/// The model that the text is, or its first mistake.
+pub fn parse(text: &str) -> Result<Source, Mistake> {
     let mut cursor = Cursor::new(text);
     let scope = header(&mut cursor)?;
     let mut threads = vec![thread(&mut cursor, &scope)?];
@@ -20,7 +21,12 @@ pub fn parse(text: &str) -> Result<Program, Mistake> {
         }
         threads.push(thread(&mut cursor, &scope)?);
     }
-    Ok(Program { threads, locations: scope.locations.len() as u8, values: scope.values })
+    let (threads, statements) = threads.into_iter().unzip();
+    Ok(Source {
+        program: Program { threads, locations: scope.locations.len() as u8, values: scope.values },
+        locations: scope.locations.into_iter().map(String::from).collect(),
+        statements,
+    })
 }
 
 /// `values 2` and `locations x y`, each on its line.
@@ -46,16 +52,19 @@ fn header<'a>(cursor: &mut Cursor<'a>) -> Result<Scope<'a>, Mistake> {
     Ok(Scope { values, locations })
 }
 
-/// `thread` on a line of its own, then the thread's lines up to the next `thread` or the end of the file.
-fn thread<'a>(cursor: &mut Cursor<'a>, scope: &Scope<'a>) -> Result<Vec<Line>, Mistake> {
+/// `thread` on a line of its own, then the thread's lines up to the next `thread` or the end of the file, each also as
+/// it is written.
+fn thread<'a>(cursor: &mut Cursor<'a>, scope: &Scope<'a>) -> Result<(Vec<Line>, Vec<Statement>), Mistake> {
     cursor.expect("thread")?;
     cursor.expect_end_of_line()?;
-    let mut instructions = Vec::new();
+    let (mut instructions, mut statements) = (Vec::new(), Vec::new());
     let mut labels = Labels::default();
     loop {
         cursor.skip_empty_lines();
         if matches!(cursor.peek().piece, Piece::Word("thread") | Piece::EndOfFile) {
-            return instructions.iter().map(|instruction| labels.resolve(instruction)).collect();
+            let lines: Result<_, _> =
+                instructions.iter().map(|instruction| labels.resolve(instruction)).collect();
+            return Ok((lines?, statements));
         }
         while cursor.at_label() {
             let name = new_name(cursor.take(), "a label", &scope.locations, &labels.names)?;
@@ -67,6 +76,7 @@ fn thread<'a>(cursor: &mut Cursor<'a>, scope: &Scope<'a>) -> Result<Vec<Line>, M
             if instructions.len() == usize::from(*LINES.end()) {
                 return Err(cursor.mistake(format!("the end of the thread after {} lines", LINES.end())));
             }
+            statements.push(cursor.statement());
             instructions.push(scope.instruction(cursor)?);
         }
         cursor.expect_end_of_line()?;
