@@ -19,7 +19,9 @@ pub struct Graph {
 pub struct Event {
     /// The thread that made it, counted from 0; none for a starting write.
     pub thread: Option<usize>,
+    /// Its location.
     pub location: usize,
+    /// What it is.
     pub action: Action,
     /// Reads-from: the write that it reads, where it reads one.
     pub source: Option<usize>,
@@ -37,7 +39,7 @@ impl Graph {
 
     /// Adds the thread's last event with the predecessor write w, and says which it is: "a read reads w, a write goes
     /// directly after w, a read-modify-write does both".
-    pub fn add(&mut self, thread: usize, location: usize, action: Action, w: usize) -> usize {
+    pub(crate) fn add(&mut self, thread: usize, location: usize, action: Action, w: usize) -> usize {
         let event = self.events.len();
         let source = match action {
             Action::Read | Action::Update(_) => Some(w),
@@ -62,6 +64,7 @@ impl Graph {
         Access { kind: action.kind(), location, value: self.written(write) }
     }
 
+    /// How many events there are.
     pub fn size(&self) -> usize {
         self.events.len()
     }
@@ -77,7 +80,7 @@ impl Graph {
     }
 
     /// The events for which the question holds.
-    pub fn those(&self, question: impl Fn(&Event) -> bool) -> Events {
+    pub(crate) fn those(&self, question: impl Fn(&Event) -> bool) -> Events {
         let mut found = Events::none(self.size());
         self.events().filter(|(_, event)| question(event)).for_each(|(place, _)| found.insert(place));
         found
@@ -93,6 +96,7 @@ impl Graph {
         *self.orders[location].last().expect("a starting write is there")
     }
 
+    /// Whether the event is a starting write.
     pub fn is_start(&self, event: usize) -> bool {
         self.events[event].thread.is_none()
     }

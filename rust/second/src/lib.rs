@@ -18,10 +18,11 @@ mod step;
 mod thread;
 mod witness;
 
+pub use graph::{Event, Graph};
 pub use report::{check, Answer, Report, PRINTING};
 pub use search::{Ending, Place, Search};
 pub use situation::{LocationPart, Set, Situation, ThreadPart};
 pub use state::State;
 pub use step::{Access, Step};
-pub use thread::{Kind, Thread};
+pub use thread::{Action, Kind, Thread};
 pub use witness::{witness, Witness};

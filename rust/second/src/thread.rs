@@ -26,12 +26,16 @@ pub enum Kind {
 /// What an access is in the graph, with the value that it writes.
 #[derive(Clone, Copy, Debug, PartialEq, Eq)]
 pub enum Action {
+    /// R
     Read,
+    /// W
     Write(u8),
+    /// M
     Update(u8),
 }
 
 impl Action {
+    /// Its kind.
     pub fn kind(self) -> Kind {
         match self {
             Action::Read => Kind::Read,

@@ -44,6 +44,21 @@ fn witness_of(program: &Program, state: &State, thread: usize) -> Option<Witness
     usable.min_by_key(|witness| witness.value)
 }
 
+impl State {
+    /// The state after the release/acquire step of a thread, counted from 0, that picks the write w; nothing where w is
+    /// no write to the location of the access, or may not be picked.
+    pub fn ra_step(&self, program: &Program, thread: usize, w: usize) -> Option<State> {
+        let Next::Access(due) = self.next(program, thread)? else {
+            return None;
+        };
+        let graph = &self.history.graph;
+        let place = graph.order(due.location).iter().position(|&write| write == w)?;
+        let action = due.action(graph.written(w))?;
+        let may = self.history.may_pick(thread, action, graph.later(due.location, place));
+        may.then(|| self.access(thread, &due, w).expect("the access is one with the value of w").1)
+    }
+}
+
 impl History {
     /// "It may pick w when no later write to the location is an event of the thread or happens before one, and, for
     /// writes and read-modify-writes, when w isn't directly followed by a read-modify-write."
