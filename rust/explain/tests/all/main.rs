@@ -2,6 +2,8 @@
 #![forbid(unsafe_code)]
 
 mod cycles;
+mod flaws;
+mod replay;
 mod reported;
 
 /// A file that no `mod` names would not be compiled, and its tests be lost unseen.

@@ -1,7 +1,7 @@
 //! Reports to explain: those of the plain checker.
 
 use answer::{steps_in, Report, Step};
-use models::collection::{self, Verdict};
+use models::collection::{self, Model, Verdict};
 use program::{encode, Program};
 use random::{Numbers, Shape};
 
@@ -32,11 +32,17 @@ fn reported(name: String, program: Program, table: usize) -> Option<Reported> {
 pub fn models_not_robust() -> Vec<Reported> {
     let models = collection::load(&collection::directory()).unwrap();
     let not_robust = models.into_iter().filter(|model| model.expected == Verdict::NotRobust);
-    let found = not_robust.map(|model| {
-        let program = program::read(&model.bytes).unwrap();
-        reported(model.name.clone(), program, 1_000_000).unwrap_or_else(|| panic!("{}", model.name))
-    });
-    found.collect()
+    not_robust.map(of_model).collect()
+}
+
+/// The model of this name, which is not robust.
+pub fn model(name: &str) -> Reported {
+    of_model(collection::named(name).unwrap())
+}
+
+fn of_model(model: Model) -> Reported {
+    let program = program::read(&model.bytes).unwrap();
+    reported(model.name.clone(), program, 1_000_000).unwrap_or_else(|| panic!("{} is robust", model.name))
 }
 
 /// So many random programs that are not robust.
