@@ -1,0 +1,123 @@
+//! The cycle of each report, held to the definitions.
+
+use answer::Kind;
+use explain::{flaw, holds, is_cycle, Edge, Execution, Relation};
+
+use crate::reported::{models_not_robust, random_not_robust, Reported};
+
+const RELATIONS: [Relation; 4] =
+    [Relation::ProgramOrder, Relation::ReadsFrom, Relation::ModificationOrder, Relation::FromRead];
+
+/// The graph of a report and the cycle in it.
+fn cycle_of(Reported { name, program, report, steps }: &Reported) -> (Execution, Vec<Edge>) {
+    let execution = Execution::of(program, report, steps).unwrap_or_else(|| panic!("{name} is not replayed"));
+    let cycle = execution.cycle().unwrap_or_else(|| panic!("{name} has no cycle"));
+    (execution, cycle)
+}
+
+/// The cycle is one through the stale access, and every edge holds.
+fn has_a_cycle(reported: &Reported) {
+    let (execution, cycle) = cycle_of(reported);
+    assert_eq!(flaw(&execution), None, "{}", reported.name);
+    assert!(is_cycle(&cycle), "{}: {cycle:?}", reported.name);
+    assert_eq!(cycle[0].from, execution.stale(), "{}", reported.name);
+    for edge in cycle {
+        assert!(holds(&execution, edge), "{}: {edge:?}", reported.name);
+    }
+}
+
+#[test]
+fn every_model_that_is_not_robust_has_a_cycle() {
+    let models = models_not_robust();
+    assert!(models.len() >= 15, "{}", models.len());
+    models.iter().for_each(has_a_cycle);
+}
+
+#[test]
+fn a_thousand_random_programs_have_a_cycle() {
+    let programs = random_not_robust(1_000);
+    assert_eq!(programs.len(), 1_000);
+    programs.iter().for_each(has_a_cycle);
+}
+
+/// How many edges lead from the stale access back to it, by the relations that `holds` knows and no search of the crate.
+fn shortest(execution: &Execution) -> usize {
+    let all = 0..execution.events.len();
+    let related = |from, to| RELATIONS.iter().any(|&relation| holds(execution, Edge { from, to, relation }));
+    let mut reached = vec![execution.stale()];
+    for length in 1.. {
+        reached = all.clone().filter(|&to| reached.iter().any(|&from| related(from, to))).collect();
+        if reached.contains(&execution.stale()) {
+            return length;
+        }
+    }
+    unreachable!("the stale access is on a cycle")
+}
+
+#[test]
+fn no_cycle_is_shorter() {
+    for reported in random_not_robust(300) {
+        let (execution, cycle) = cycle_of(&reported);
+        assert_eq!(cycle.len(), shortest(&execution), "{}: {cycle:?}", reported.name);
+    }
+}
+
+/// The relations other than that of an edge which hold between its events all the same: a read-modify-write is read and
+/// written at once.
+fn also(execution: &Execution, edge: Edge) -> &'static [Relation] {
+    let is_update = |event: usize| execution.events[event].kind == Kind::Update;
+    match (edge.relation, is_update(edge.from), is_update(edge.to)) {
+        (Relation::ReadsFrom, true, true) => &[Relation::ModificationOrder, Relation::FromRead],
+        (Relation::ReadsFrom, false, true) => &[Relation::ModificationOrder],
+        (Relation::ModificationOrder, true, _) => &[Relation::FromRead],
+        (Relation::FromRead, true, _) => &[Relation::ModificationOrder],
+        _ => &[],
+    }
+}
+
+#[test]
+fn an_edge_of_another_relation_does_not_hold() {
+    for reported in random_not_robust(300).iter().chain(&models_not_robust()) {
+        let (execution, cycle) = cycle_of(reported);
+        for edge in cycle {
+            let holding =
+                RELATIONS.into_iter().filter(|&relation| holds(&execution, Edge { relation, ..edge }));
+            let others: Vec<Relation> = holding.filter(|&relation| relation != edge.relation).collect();
+            assert_eq!(others, also(&execution, edge), "{}: {edge:?}", reported.name);
+        }
+    }
+}
+
+#[test]
+fn an_edge_that_is_turned_round_does_not_hold() {
+    for reported in random_not_robust(300).iter().chain(&models_not_robust()) {
+        let (execution, cycle) = cycle_of(reported);
+        for Edge { from, to, relation } in cycle {
+            let turned = Edge { from: to, to: from, relation };
+            assert!(!holds(&execution, turned), "{}: {turned:?}", reported.name);
+            let beyond = Edge { from, to: execution.events.len(), relation };
+            assert!(!holds(&execution, beyond), "{}: {beyond:?}", reported.name);
+        }
+    }
+}
+
+#[test]
+fn a_damaged_cycle_is_none() {
+    for reported in random_not_robust(300) {
+        let (_, mut cycle) = cycle_of(&reported);
+        for place in 0..cycle.len() {
+            let mut damaged = cycle.clone();
+            let edge = damaged.remove(place);
+            assert!(!is_cycle(&damaged), "{}: {damaged:?}", reported.name);
+            damaged.insert(place, Edge { from: edge.to, to: edge.from, ..edge });
+            assert!(!is_cycle(&damaged), "{}: {damaged:?}", reported.name);
+        }
+        let twice = [cycle.clone(), cycle.clone()].concat();
+        assert!(!is_cycle(&twice), "{}", reported.name);
+        cycle.rotate_left(1);
+        assert!(is_cycle(&cycle), "{}", reported.name);
+        cycle.swap(0, 1);
+        assert!(!is_cycle(&cycle), "{}", reported.name);
+    }
+    assert!(!is_cycle(&[]));
+}
