@@ -2,8 +2,9 @@
 #![forbid(unsafe_code)]
 
 use std::fmt::Display;
-use std::io::{self, ErrorKind, Write};
-use std::process::exit;
+use std::fs::File;
+use std::io::{self, ErrorKind, Read, Write};
+use std::process::{exit, ExitCode};
 
 /// The status of a failed read or write, or of an input with a mistake.
 pub const FAILED: u8 = 1;
@@ -19,9 +20,60 @@ pub fn arguments() -> Result<Vec<String>, String> {
     std::env::args_os().skip(1).map(text).collect()
 }
 
+/// The arguments of a command that knows `--help`, `-h` and `--version` beside them; the status to end with where one of
+/// these was given and answered, or an argument is no text.
+pub fn asked(command: &str, usage: &str) -> Result<Vec<String>, ExitCode> {
+    let arguments = arguments().map_err(|message| {
+        tell(format!("{command}: {message}"));
+        ExitCode::from(USAGE)
+    })?;
+    let is_given = |option| arguments.iter().any(|argument| argument == option);
+    if is_given("--help") || is_given("-h") {
+        print(command, usage);
+    } else if is_given("--version") {
+        print(command, version(command).trim_end());
+    } else {
+        return Ok(arguments);
+    }
+    Err(ExitCode::SUCCESS)
+}
+
 /// The line that `--version` prints. The middle number is that of the C header `order_check.h`.
 pub fn version(command: &str) -> String {
     format!("{command} {}\n", env!("CARGO_PKG_VERSION"))
+}
+
+/// What the name `-` stands for.
+const STANDARD_INPUT: &str = "standard input";
+
+/// What messages call a file.
+pub fn name_of(file: &str) -> &str {
+    if file == "-" {
+        STANDARD_INPUT
+    } else {
+        file
+    }
+}
+
+/// No model and no program is longer, in bytes.
+const LONGEST: usize = 1 << 20;
+
+/// What the file holds, or standard input for `-`; or why that can't be told. A longer input is not read to its end.
+pub fn read(file: &str) -> Result<Vec<u8>, String> {
+    let bytes = match file {
+        "-" => up_to_longest(io::stdin().lock()),
+        _ => File::open(file).and_then(up_to_longest),
+    };
+    bytes.map_err(|error| format!("{}: {error}", name_of(file)))
+}
+
+fn up_to_longest(from: impl Read) -> io::Result<Vec<u8>> {
+    let mut bytes = Vec::new();
+    from.take(LONGEST as u64 + 1).read_to_end(&mut bytes)?;
+    if bytes.len() > LONGEST {
+        return Err(io::Error::other("longer than 1 MiB, which no model is"));
+    }
+    Ok(bytes)
 }
 
 /// Why standard output was not written.

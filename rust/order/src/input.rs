@@ -1,8 +1,6 @@
 //! A model from a file or from standard input, as text or as program bytes.
 
-use std::fs::File;
-use std::io::{self, Read};
-
+use command::{name_of, read};
 use models::Source;
 use program::encode;
 
@@ -22,12 +20,8 @@ pub struct Input {
 
 /// Reads the file, or standard input for `-`; or says what is wrong with it.
 pub fn input(file: &str) -> Result<Input, String> {
-    let name = if file == "-" { "standard input" } else { file };
-    let bytes = match file {
-        "-" => read(io::stdin().lock()),
-        _ => File::open(file).and_then(read),
-    };
-    let bytes = bytes.map_err(|error| format!("{name}: {error}"))?;
+    let name = name_of(file);
+    let bytes = read(file)?;
     if is_program(&bytes) {
         return Ok(program(name, bytes));
     }
@@ -53,16 +47,6 @@ fn is_program(bytes: &[u8]) -> bool {
     let marked =
         bytes.strip_prefix(b"PR").is_some_and(|rest| !rest.first().is_some_and(u8::is_ascii_graphic));
     marked || bytes.contains(&0)
-}
-
-fn read(from: impl Read) -> io::Result<Vec<u8>> {
-    const LONGEST: usize = 1 << 20;
-    let mut bytes = Vec::new();
-    from.take(LONGEST as u64 + 1).read_to_end(&mut bytes)?;
-    if bytes.len() > LONGEST {
-        return Err(io::Error::other("longer than 1 MiB, which no model is"));
-    }
-    Ok(bytes)
 }
 
 #[cfg(test)]
