@@ -1,0 +1,48 @@
+//! Texts in columns and in lines.
+
+/// How wide a terminal is, in columns.
+pub const WIDTH: usize = 80;
+
+/// The rows in columns two blanks apart, each as wide as its widest cell; those of numbers stand at the right of
+/// theirs. Every line starts with the indent and ends without blanks.
+pub fn table(indent: &str, rows: &[Vec<String>]) -> String {
+    let count = rows.iter().map(Vec::len).max().unwrap_or(0);
+    let cells = |column: usize| rows.iter().filter_map(move |row| row.get(column));
+    let widths: Vec<usize> =
+        (0..count).map(|column| cells(column).map(|cell| wide(cell)).max().unwrap_or(0)).collect();
+    let line = |row: &Vec<String>| {
+        let cells: Vec<String> = row.iter().zip(&widths).map(|(cell, &width)| padded(cell, width)).collect();
+        format!("{indent}{}\n", cells.join("  ").trim_end())
+    };
+    rows.iter().map(line).collect()
+}
+
+fn padded(cell: &str, width: usize) -> String {
+    let blanks = " ".repeat(width - wide(cell));
+    if cell.bytes().all(|byte| byte.is_ascii_digit()) {
+        blanks + cell
+    } else {
+        cell.to_owned() + &blanks
+    }
+}
+
+/// The words in lines of at most [`WIDTH`] columns where they allow it: the first starts with `first`, the others with
+/// as many blanks.
+pub fn wrapped(first: &str, words: &str) -> String {
+    let indent = " ".repeat(wide(first));
+    let mut lines: Vec<String> = vec![];
+    for word in words.split_whitespace() {
+        match lines.last_mut() {
+            Some(line) if wide(&indent) + wide(line) + 1 + wide(word) <= WIDTH => {
+                *line += &format!(" {word}")
+            }
+            _ => lines.push(word.into()),
+        }
+    }
+    let text: String = lines.iter().map(|line| format!("{indent}{line}\n")).collect();
+    text.replacen(&indent, first, 1)
+}
+
+fn wide(text: &str) -> usize {
+    text.chars().count()
+}

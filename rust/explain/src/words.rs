@@ -1,0 +1,61 @@
+//! Accesses, writes and relations in words, with the names and the lines of the model.
+
+use answer::Kind;
+
+use crate::edge::Relation;
+use crate::explanation::Explanation;
+
+impl Explanation {
+    /// The line of the text, from 1, of a line of a thread.
+    pub(crate) fn text_line(&self, thread: usize, line: usize) -> usize {
+        self.source.statements[thread][line].line
+    }
+
+    /// The name of the location of an event.
+    pub(crate) fn location(&self, event: usize) -> &str {
+        &self.source.locations[self.execution.events[event].location]
+    }
+
+    /// What an access does: `writes x = 1`, `reads x = 1`, or `x: 1 -> 2` for a read-modify-write.
+    pub(crate) fn access(&self, event: usize) -> String {
+        let (name, what) = (self.location(event), &self.execution.events[event]);
+        let value = |value: Option<u8>| value.map_or_else(String::new, |value| value.to_string());
+        let (read, written) = (value(what.read), value(what.written));
+        match what.kind {
+            Kind::Read => format!("reads {name} = {read}"),
+            Kind::Write => format!("writes {name} = {written}"),
+            Kind::Update => format!("{name}: {read} -> {written}"),
+        }
+    }
+
+    /// A write with its value: `x = 1 of step 3 (thread 2, line 7)` or `x = 0, the starting value`.
+    pub(crate) fn write(&self, event: usize) -> String {
+        let value = self.execution.events[event].written.unwrap_or_default();
+        let name = self.location(event);
+        match self.execution.step_of(event) {
+            None => format!("{name} = {value}, the starting value"),
+            Some(step) => {
+                let (number, thread) = (self.step(event), step.thread + 1);
+                let line = self.text_line(step.thread, step.line);
+                format!("{name} = {value} of step {number} (thread {thread}, line {line})")
+            }
+        }
+    }
+
+    /// The number of the step that made the event, from 1; 0 for a starting write.
+    pub(crate) fn step(&self, event: usize) -> usize {
+        self.execution.events[event].step.map_or(0, |step| step + 1)
+    }
+}
+
+impl Relation {
+    /// What the event that comes before is to the one after it.
+    pub(crate) fn words(self) -> &'static str {
+        match self {
+            Relation::ProgramOrder => "program order",
+            Relation::ReadsFrom => "read by",
+            Relation::ModificationOrder => "written before",
+            Relation::FromRead => "read older than",
+        }
+    }
+}
