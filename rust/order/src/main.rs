@@ -2,18 +2,20 @@
 #![forbid(unsafe_code)]
 
 mod arguments;
+mod data;
 mod decide;
 mod input;
 mod memory;
 mod printing;
+mod reason;
 mod show;
 mod status;
 mod words;
 
 use std::process::ExitCode;
 
-use arguments::{parse, Asked, Task};
-use command::{arguments, tell, version, write_out, Unwritten, USAGE};
+use arguments::{parse, Asked, Show, Task};
+use command::{arguments, name_of, tell, version, write_out, Unwritten, USAGE};
 use status::Status;
 
 const HELP: &str = include_str!("help.txt");
@@ -38,7 +40,12 @@ fn run(task: &Task) -> Result<Status, Unwritten> {
         let shown = input::input(file).and_then(|input| show::shown(&input, task));
         status = status.min(match shown {
             Ok((text, status)) => written(&text).map(|()| status)?,
-            Err(message) => failed(Unwritten::Failed(message)),
+            Err(message) => {
+                if task.show == Show::Json {
+                    written(&format!("{}\n", data::error(name_of(file), &message)))?;
+                }
+                failed(Unwritten::Failed(message))
+            }
         });
     }
     Ok(status)
