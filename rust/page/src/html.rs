@@ -49,7 +49,8 @@ impl Page<'_> {
 
     fn picture(&self, graph: &Graph) -> String {
         let picture = svg(self.source, graph);
-        format!("{}{}", legend(), scrolling("The execution graph, to scroll", &picture))
+        let scrolling = scrolling("The execution graph, to scroll", &picture);
+        format!("<div class=\"picture\">\n{}{scrolling}</div>\n", legend())
     }
 
     fn steps(&self, graph: &Graph) -> String {

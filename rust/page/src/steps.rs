@@ -18,10 +18,13 @@ fn row(words: &Words, step: usize) -> String {
     let is_stale = taken.event == Some(words.execution.stale());
     let class = if is_stale { " class=\"stale\"" } else { "" };
     let number = if is_stale { "stale".into() } else { (step + 1).to_string() };
-    let access = taken.event.map_or_else(|| "none".into(), |event| escaped(&words.access(event)));
+    let access = match taken.event {
+        Some(event) => format!("<td><code>{}</code></td>", escaped(&words.access(event))),
+        None => "<td class=\"local\">none, a local line</td>".into(),
+    };
     format!(
         "<tr{class}><th scope=\"row\">{number}</th><td>{}</td><td><a href=\"#line-{line}\">{line}</a></td>\
-         <td><code>{}</code></td><td><code>{access}</code></td></tr>\n",
+         <td><code>{}</code></td>{access}</tr>\n",
         taken.thread + 1,
         escaped(&statement.text),
         line = statement.line,

@@ -51,7 +51,7 @@ fn stale(kind: Kind, name: &str, value: u8) -> String {
     match kind {
         Kind::Read => format!("read the old value {value} of {name}"),
         Kind::Write => {
-            format!("write {name} directly after an older write of {value}, and not after the newest")
+            format!("place its write of {name} directly after an older write of {value}, before the newest")
         }
         Kind::Update => format!("read the old value {value} of {name}, and write {name} directly after it"),
     }
@@ -70,8 +70,8 @@ mod tests {
             (not_robust(3, Kind::Read), "Not robust: after these 3 steps thread 2 may read the old value 3 of turn."),
             (
                 not_robust(1, Kind::Write),
-                "Not robust: after this 1 step thread 2 may write turn directly after an older write of 3, and not \
-                 after the newest.",
+                "Not robust: after this 1 step thread 2 may place its write of turn directly after an older write of 3, \
+                 before the newest.",
             ),
             (
                 not_robust(2, Kind::Update),

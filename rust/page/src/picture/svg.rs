@@ -21,6 +21,9 @@ const MARGIN: i32 = 8;
 /// With more rows than this the headings stand below the columns too.
 const MANY_ROWS: usize = 12;
 
+/// A picture higher than this could not be read on one page, and is printed on several.
+const TALL: i32 = 4_000;
+
 /// The graph as an element of HTML.
 pub fn svg(source: &Source, graph: &Graph) -> String {
     let drawing = &Drawing::of(source, graph);
@@ -50,8 +53,9 @@ fn opening(drawing: &Drawing, graph: &Graph, width: i32, height: i32) -> String 
     let (starts, threads) = (drawing.starts(), drawing.threads());
     let accesses = drawing.events().len() - starts;
     let cycle: Vec<String> = graph.cycle.iter().map(|&edge| drawing.words.of_edge(edge, true)).collect();
+    let tall = if height > TALL { " tall" } else { "" };
     format!(
-        "<svg xmlns=\"http://www.w3.org/2000/svg\" class=\"graph\" role=\"graphics-document document\" \
+        "<svg xmlns=\"http://www.w3.org/2000/svg\" class=\"graph{tall}\" role=\"graphics-document document\" \
          aria-label=\"Execution graph: {accesses} accesses in {threads} columns, one for each thread, below {starts} \
          starting writes\" viewBox=\"{x} {y} {width} {height}\" width=\"{width}\" height=\"{height}\">\n\
          <desc>{}</desc>\n",
