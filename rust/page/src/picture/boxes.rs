@@ -1,0 +1,48 @@
+//! Where the boxes of the events stand, from top to bottom too.
+
+use super::frame::Frame;
+use super::Drawing;
+
+pub const HEIGHT: i32 = 40;
+/// The room between two rows, where the names of the relations stand.
+pub const GAP: i32 = 20;
+/// Room for the headings of the columns.
+const HEADING: i32 = 26;
+
+/// A box.
+#[derive(Clone, Copy)]
+pub struct Rect {
+    pub x: i32,
+    pub y: i32,
+    pub width: i32,
+    pub height: i32,
+}
+
+impl Rect {
+    pub fn bottom(&self) -> i32 {
+        self.y + self.height
+    }
+
+    pub fn right(&self) -> i32 {
+        self.x + self.width
+    }
+
+    pub fn middle(&self) -> i32 {
+        self.x + self.width / 2
+    }
+}
+
+/// Where the starting writes end, and lines from them may turn.
+pub const STARTS_END: i32 = HEIGHT;
+
+/// The box of each event, with so much room below the starting writes.
+pub fn boxes(drawing: &Drawing, frame: &Frame, turns: i32) -> Vec<Rect> {
+    let rect = |event| {
+        let y = match drawing.row(event) as i32 {
+            0 => 0,
+            row => STARTS_END + turns + HEADING + GAP + (row - 1) * (HEIGHT + GAP),
+        };
+        Rect { x: frame.left(drawing, event), y, width: frame.box_width, height: HEIGHT }
+    };
+    drawing.events().map(rect).collect()
+}

@@ -1,0 +1,117 @@
+//! The way of each edge.
+
+use std::collections::HashMap;
+
+use super::boxes::{Rect, GAP, STARTS_END};
+use super::frame::{Frame, LANE};
+use super::lanes::lanes;
+use super::ports::{Port, Ports, Side};
+use super::trunks::{root_and_leaf, Trunk};
+use super::Drawing;
+
+/// The distance of two lines below the starting writes.
+const TURN: i32 = 10;
+
+/// The way of an edge, and where its name stands.
+#[derive(Clone, Default)]
+pub struct Wire {
+    pub points: Vec<(i32, i32)>,
+    /// The middle of the name; of a straight line the start of it.
+    pub name: (i32, i32),
+}
+
+/// What the ways are made from.
+pub struct Wiring<'a> {
+    pub drawing: &'a Drawing<'a>,
+    pub frame: &'a Frame,
+    pub trunks: &'a [Trunk],
+    pub ports: &'a Ports,
+}
+
+/// How far below the starting writes the line from each of their ports turns.
+pub struct Turns {
+    at: HashMap<Port, i32>,
+    /// The room that all need.
+    pub height: i32,
+}
+
+impl Wiring<'_> {
+    pub fn turns(&self) -> Turns {
+        let mut stretches: Vec<(Port, (i32, i32))> = Vec::new();
+        for (port, lane) in self.trunks.iter().flat_map(|trunk| self.starting(trunk)) {
+            let x = self.below(&port);
+            let at = stretches.iter().position(|(known, _)| *known == port).unwrap_or(stretches.len());
+            if at == stretches.len() {
+                stretches.push((port, (x, x)));
+            }
+            let (from, to) = stretches[at].1;
+            stretches[at].1 = (from.min(lane), to.max(lane));
+        }
+        let (ports, stretches): (Vec<Port>, Vec<(i32, i32)>) = stretches.into_iter().unzip();
+        let (found, count) = lanes(&stretches);
+        let at = ports.into_iter().zip(found.into_iter().map(|lane| (lane as i32 + 1) * TURN)).collect();
+        Turns { at, height: (count as i32 + 1) * TURN }
+    }
+
+    /// The ports of a trunk below starting writes, each with the trunk's place.
+    fn starting<'a>(&'a self, trunk: &'a Trunk) -> impl Iterator<Item = (Port, i32)> + 'a {
+        let ports = trunk.edges.iter().flat_map(|&at| {
+            let edge = self.drawing.edges[at].edge;
+            [(edge.from, true), (edge.to, false)]
+                .map(|(event, leaves)| Port::of(self.drawing, trunk, event, leaves))
+        });
+        ports.filter(|port| port.side == Side::Below).map(|port| (port, self.frame.lane(trunk)))
+    }
+
+    /// Where a port below a starting write is: between two lanes.
+    fn below(&self, port: &Port) -> i32 {
+        let along = self.ports.offset(port, self.frame.box_width);
+        self.frame.starts[port.event] + along / LANE * LANE + LANE / 2
+    }
+
+    /// The way of each edge that is drawn.
+    pub fn wires(&self, boxes: &[Rect], turns: &Turns) -> Vec<Wire> {
+        let straight = |edge: explain::Edge| {
+            let (x, top) = (boxes[edge.to].middle(), boxes[edge.to].y);
+            Wire { points: vec![(x, boxes[edge.from].bottom()), (x, top)], name: (x + 7, top - GAP / 2) }
+        };
+        let mut wires: Vec<Wire> = self.drawing.edges.iter().map(|drawn| straight(drawn.edge)).collect();
+        for trunk in self.trunks {
+            for &at in &trunk.edges {
+                wires[at] = self.wire(trunk, at, boxes, turns);
+            }
+        }
+        wires
+    }
+
+    /// From the box to the lane, along it, and to the other box. The name stands beside the row of the end that is the
+    /// edge's own.
+    fn wire(&self, trunk: &Trunk, at: usize, boxes: &[Rect], turns: &Turns) -> Wire {
+        let drawn = &self.drawing.edges[at];
+        let lane = self.frame.lane(trunk);
+        let mut points = self.end(&Port::of(self.drawing, trunk, drawn.edge.from, true), boxes, turns);
+        let mut end = self.end(&Port::of(self.drawing, trunk, drawn.edge.to, false), boxes, turns);
+        let turn = |points: &[(i32, i32)]| points.last().map(|&(_, y)| (lane, y));
+        points.extend(turn(&points));
+        end.extend(turn(&end));
+        points.extend(end.into_iter().rev());
+        let (root, leaf) = root_and_leaf(drawn);
+        let is_above = boxes[root].y < boxes[leaf].y;
+        let y = if is_above { boxes[leaf].y - GAP / 2 } else { boxes[leaf].bottom() + GAP / 2 };
+        Wire { points, name: (lane, y) }
+    }
+
+    /// The way from a port to where it turns to the lane.
+    fn end(&self, port: &Port, boxes: &[Rect], turns: &Turns) -> Vec<(i32, i32)> {
+        let rect = &boxes[port.event];
+        let y = rect.y + self.ports.offset(port, rect.height);
+        match port.side {
+            Side::Left => vec![(rect.x, y)],
+            Side::Right => vec![(rect.right(), y)],
+            Side::Below => {
+                let x = self.below(port);
+                vec![(x, rect.bottom()), (x, STARTS_END + turns.at[port])]
+            }
+        }
+    }
+}

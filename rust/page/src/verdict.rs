@@ -1,0 +1,99 @@
+//! The verdict in words.
+
+use answer::{Kind, Report};
+use models::Source;
+
+/// The report in a sentence, with the names of the model.
+pub fn verdict(source: &Source, report: &Report) -> String {
+    format!("{}: {}", head(report), reason(source, report))
+}
+
+/// The verdict in a word or two.
+pub fn head(report: &Report) -> &'static str {
+    match report {
+        Report::Robust { .. } => "Robust",
+        Report::NotRobust { .. } | Report::Short { .. } => "Not robust",
+        Report::Full { .. } => "Undecided",
+        Report::Refused { .. } => "No program",
+    }
+}
+
+/// The rest of the sentence.
+pub fn reason(source: &Source, report: &Report) -> String {
+    match *report {
+        Report::Robust { count } => format!(
+            "every release/acquire run ends in thread states and a graph that some SC run reaches too. It has {}, \
+             all searched.",
+            situations(count)
+        ),
+        Report::NotRobust { steps, thread, kind, location, value, .. } => {
+            let name = source.locations.get(location).map_or("?", String::as_str);
+            let these = if steps == 1 { "this 1 step".into() } else { format!("these {steps} steps") };
+            format!("after {these} thread {thread} may {}.", stale(kind, name, value))
+        }
+        Report::Short { wanted } => {
+            format!("the trace is too short for the steps that show it, which need {wanted} bytes.")
+        }
+        Report::Full { count } => {
+            format!("the table is full. There is no witness in the first {}, and there are more.", situations(count))
+        }
+        Report::Refused { number } => format!("check {number} of the input failed first."),
+    }
+}
+
+fn situations(count: usize) -> String {
+    let plural = if count == 1 { "" } else { "s" };
+    format!("{count} situation{plural}")
+}
+
+/// What the stale access may do.
+fn stale(kind: Kind, name: &str, value: u8) -> String {
+    match kind {
+        Kind::Read => format!("read the old value {value} of {name}"),
+        Kind::Write => {
+            format!("place its write of {name} directly after an older write of {value}, before the newest")
+        }
+        Kind::Update => format!("read the old value {value} of {name}, and write {name} directly after it"),
+    }
+}
+
+#[cfg(test)]
+mod tests {
+    use super::{verdict, Kind, Report, Source};
+
+    #[test]
+    fn each_report_has_its_sentence() {
+        let source = Source::of_text(b"values 2\nlocations flag turn\nthread").unwrap();
+        let not_robust =
+            |steps, kind| Report::NotRobust { count: 7, steps, thread: 2, kind, location: 1, value: 3 };
+        for (report, words) in [
+            (not_robust(3, Kind::Read), "Not robust: after these 3 steps thread 2 may read the old value 3 of turn."),
+            (
+                not_robust(1, Kind::Write),
+                "Not robust: after this 1 step thread 2 may place its write of turn directly after an older write of 3, \
+                 before the newest.",
+            ),
+            (
+                not_robust(2, Kind::Update),
+                "Not robust: after these 2 steps thread 2 may read the old value 3 of turn, and write turn directly \
+                 after it.",
+            ),
+            (
+                Report::Robust { count: 13 },
+                "Robust: every release/acquire run ends in thread states and a graph that some SC run reaches too. \
+                 It has 13 situations, all searched.",
+            ),
+            (
+                Report::Full { count: 1 },
+                "Undecided: the table is full. There is no witness in the first 1 situation, and there are more.",
+            ),
+            (
+                Report::Short { wanted: 12 },
+                "Not robust: the trace is too short for the steps that show it, which need 12 bytes.",
+            ),
+            (Report::Refused { number: 9 }, "No program: check 9 of the input failed first."),
+        ] {
+            assert_eq!(verdict(&source, &report), words);
+        }
+    }
+}

@@ -1,0 +1,86 @@
+//! What is said of events and edges, in the picture, in the table and for graphviz.
+
+use answer::Kind;
+use explain::{Edge, Event, Execution};
+use models::{Source, Statement};
+
+use crate::relations::look;
+
+/// A graph with the names and the lines of its model.
+#[derive(Clone, Copy)]
+pub struct Words<'a> {
+    pub source: &'a Source,
+    pub execution: &'a Execution,
+}
+
+impl<'a> Words<'a> {
+    fn event(&self, event: usize) -> &'a Event {
+        &self.execution.events[event]
+    }
+
+    fn is_stale(&self, event: usize) -> bool {
+        event == self.execution.stale()
+    }
+
+    /// The line of a step as it is written; a step is a place in the list of them.
+    pub fn statement(&self, step: usize) -> &'a Statement {
+        let taken = &self.execution.steps[step];
+        &self.source.statements[taken.thread][taken.line]
+    }
+
+    /// `R x = 0`, `W x = 1`, `M x: 0 → 1`
+    pub fn access(&self, event: usize) -> String {
+        let Event { kind, location, read, written, .. } = *self.event(event);
+        let name = &self.source.locations[location];
+        let [read, written] = [read, written].map(Option::unwrap_or_default);
+        match kind {
+            Kind::Read => format!("R {name} = {read}"),
+            Kind::Write => format!("W {name} = {written}"),
+            Kind::Update => format!("M {name}: {read} → {written}"),
+        }
+    }
+
+    /// Where an event comes from: `step 3, line 12`. Steps and lines count from 1, as in the table and in the text.
+    pub fn origin(&self, event: usize) -> String {
+        match self.event(event).step {
+            None => "starting write".into(),
+            Some(step) if self.is_stale(event) => format!("stale, line {}", self.statement(step).line),
+            Some(step) => format!("step {}, line {}", step + 1, self.statement(step).line),
+        }
+    }
+
+    /// All that the picture shows of an event, in words.
+    pub fn of_event(&self, event: usize) -> String {
+        let access = self.access(event);
+        let (Some(step), Some(thread)) = (self.event(event).step, self.event(event).thread) else {
+            return format!("Starting write {access}");
+        };
+        let Statement { line, text } = self.statement(step);
+        let place = format!("thread {}, line {line} ({text}): {access}", thread + 1);
+        if self.is_stale(event) {
+            let newest = self.named(self.execution.newest);
+            format!("Stale access of {place}. It goes by an older write than {newest}, the newest.")
+        } else {
+            format!("Step {} of {place}", step + 1)
+        }
+    }
+
+    /// An event by its access and its step.
+    fn named(&self, event: usize) -> String {
+        let access = self.access(event);
+        match (self.event(event).step, self.event(event).thread) {
+            (Some(_), Some(thread)) if self.is_stale(event) => {
+                format!("{access} (stale access, thread {})", thread + 1)
+            }
+            (Some(step), Some(thread)) => format!("{access} (step {}, thread {})", step + 1, thread + 1),
+            _ => format!("{access} (starting write)"),
+        }
+    }
+
+    /// An edge in words.
+    pub fn of_edge(&self, edge: Edge, in_cycle: bool) -> String {
+        let [from, to] = [edge.from, edge.to].map(|event| self.named(event));
+        let cycle = if in_cycle { ", in the cycle" } else { "" };
+        format!("{}{cycle}: from {from} to {to}", look(edge.relation).name)
+    }
+}

@@ -1,0 +1,70 @@
+//! Models with their reports, those of the plain checker.
+
+use answer::{steps_in, Report, Step};
+use explain::{Edge, Execution};
+use models::collection::{self, Model};
+use models::Source;
+use page::{Graph, Page};
+
+/// A model, the report on it and, of NR, the graph.
+pub struct Reported {
+    pub name: String,
+    pub text: String,
+    pub source: Source,
+    pub report: Report,
+    pub execution: Option<Execution>,
+    pub cycle: Vec<Edge>,
+}
+
+impl Reported {
+    /// The report on a text in a table of a million bytes.
+    pub fn on(name: &str, text: &str) -> Reported {
+        let source = Source::of_text(text.as_bytes()).unwrap_or_else(|mistake| panic!("{name}:{mistake}"));
+        let (mut table, mut trace) = (vec![0; 1_000_000], vec![0; 20_000]);
+        let report = plain::check(&program::encode(&source.program), &mut table, &mut trace);
+        let steps = if let Report::NotRobust { steps, .. } = report { steps } else { 0 };
+        let steps = steps_in(&trace[..steps * Step::BYTES]).unwrap();
+        let execution = Execution::of(&source.program, &report, &steps);
+        let cycle = execution.as_ref().map_or_else(Vec::new, |execution| execution.cycle().unwrap());
+        Reported { name: name.into(), text: text.into(), source, report, execution, cycle }
+    }
+
+    pub fn graph(&self) -> Option<Graph<'_>> {
+        self.execution.as_ref().map(|execution| Graph { execution, cycle: &self.cycle })
+    }
+
+    pub fn html(&self, words: &str) -> String {
+        let Reported { name, text, source, report, .. } = self;
+        Page { name, text, source, report, graph: self.graph(), words }.html()
+    }
+}
+
+/// Every model of the repository.
+pub fn models() -> Vec<Reported> {
+    let reported = |model: Model| {
+        let file = format!("{}.order", model.name);
+        let text = std::fs::read_to_string(collection::directory().join(&file)).unwrap();
+        Reported::on(&file, &text)
+    };
+    collection::load(&collection::directory()).unwrap().into_iter().map(reported).collect()
+}
+
+/// Eight threads that take turns, each with accesses to several locations, and then store buffering.
+pub fn crowd() -> Reported {
+    let thread = |number: usize| {
+        let own = ["a", "b", "c", "d"][number % 4];
+        let other = ["b", "c", "d", "e"][number * 3 % 4];
+        let end = match number {
+            0 => "  wait(turn = 8)\n  f := 1\n  r3 := g\n",
+            7 => "  g := 1\n  r3 := f\n",
+            _ => "",
+        };
+        format!(
+            "thread\n  wait(turn = {number})\n  {own} := {number}\n  r0 := FADD(e, 1)\n  r1 := {other}\n  r2 := {own}\n  \
+             turn := {}\n{end}",
+            number + 1
+        )
+    };
+    let threads: String = (0..8).map(thread).collect();
+    Reported::on("crowd.order", &format!("values 16\nlocations turn a b c d e f g\n{threads}"))
+}
