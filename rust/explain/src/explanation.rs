@@ -42,8 +42,8 @@ pub enum Unexplained {
 }
 
 impl Explanation {
-    /// The explanation of a report NR and its steps on a model. The checker is asked about changes of the model, at most
-    /// [`MOST_CHECKS`](crate::MOST_CHECKS) times.
+    /// The explanation of a report NR and its steps on a model. The checker is asked about changes of the model, no
+    /// more than [`MOST_CHECKS`](crate::MOST_CHECKS) times.
     ///
     /// Graph and cycle are checked by the definitions before anything is said of them.
     pub fn of(

@@ -34,25 +34,25 @@ impl Explanation {
     }
 
     fn step_row(&self, place: usize, step: &Taken, is_marked: bool) -> Vec<String> {
-        let statement = &self.source.statements[step.thread][step.line];
         let mark = if is_marked && self.is_on_cycle(step) { "*" } else { "" };
         vec![
             mark.into(),
             (place + 1).to_string(),
             (step.thread + 1).to_string(),
-            statement.line.to_string(),
-            statement.text.clone(),
+            self.text_line(step.thread, step.line).to_string(),
+            self.statement(step.thread, step.line),
             step.event.map_or_else(String::new, |event| self.effect(event)),
         ]
     }
 
     /// What an access does, and whose value it reads.
     fn effect(&self, event: usize) -> String {
-        let access = self.access(event);
-        match self.execution.events[event].source.map(|write| self.step(write)) {
-            None => access,
-            Some(0) => format!("{access} (starting value)"),
-            Some(step) => format!("{access} of step {step}"),
+        let (access, what) = (self.access(event), &self.execution.events[event]);
+        match (what.kind, what.source.map(|write| self.step(write))) {
+            (_, None) => access,
+            (_, Some(0)) => format!("{access} (starting value)"),
+            (Kind::Update, Some(step)) => format!("{access}, directly after step {step}"),
+            (_, Some(step)) => format!("{access} of step {step}"),
         }
     }
 

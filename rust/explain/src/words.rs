@@ -11,6 +11,12 @@ impl Explanation {
         self.source.statements[thread][line].line
     }
 
+    /// A line of a thread as it is written, with single blanks.
+    pub(crate) fn statement(&self, thread: usize, line: usize) -> String {
+        let words: Vec<&str> = self.source.statements[thread][line].text.split_whitespace().collect();
+        words.join(" ")
+    }
+
     /// The name of the location of an event.
     pub(crate) fn location(&self, event: usize) -> &str {
         &self.source.locations[self.execution.events[event].location]

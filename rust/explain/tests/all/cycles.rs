@@ -9,7 +9,7 @@ const RELATIONS: [Relation; 4] =
     [Relation::ProgramOrder, Relation::ReadsFrom, Relation::ModificationOrder, Relation::FromRead];
 
 /// The graph of a report and the cycle in it.
-fn cycle_of(Reported { name, program, report, steps }: &Reported) -> (Execution, Vec<Edge>) {
+fn cycle_of(Reported { name, program, report, steps, .. }: &Reported) -> (Execution, Vec<Edge>) {
     let execution = Execution::of(program, report, steps).unwrap_or_else(|| panic!("{name} is not replayed"));
     let cycle = execution.cycle().unwrap_or_else(|| panic!("{name} has no cycle"));
     (execution, cycle)
