@@ -19,24 +19,25 @@ impl Explanation {
     /// - `verdict`: `"not_robust"`.
     /// - `disassembled`: whether the model came as bytes, so that lines are those of its disassembly.
     /// - `locations`: the names of the locations.
-    /// - `steps`: the run, the stale access last. Each has `step`, `thread`, `line`, `statement`, and `event`, the id of
-    ///   its event, `null` for a line that makes no access.
+    /// - `steps`: the run, the stale access last. Each has `step`, `thread`, `line`, `statement`, and `event`, the id
+    ///   of its event, `null` for a line that makes no access.
     /// - `events`: the graph, first the starting writes, then the events of the steps. Each has `id`; `step`, `thread`
     ///   and `line`, `null` for a starting write; `kind`, which is `"read"`, `"write"` or `"update"`, a
     ///   read-modify-write; `location`, its name; `read` and `written`, values; `reads_from`, the id of a write.
     /// - `modification_orders`: for each location, as in `locations`, the ids of its writes, the newest last.
-    /// - `stale`: `event`, the id of the stale access, `picked`, that of the write which it uses, and `newest`, that of
-    ///   the newest write before it.
+    /// - `stale`: `event`, the id of the stale access, `picked`, that of the write which it uses, and `newest`, that
+    ///   of the newest write before it.
     /// - `cycle`: the edges from the stale access back to it. Each has `from` and `to`, ids, and `relation`: `"po"` is
     ///   program order, `"rf"` reads from, `"mo"` modification order, `"fr"` from-read.
-    /// - `help`: `fences` and `updates`, the trials of changes on the cycle; `enough`, the trial of a small set of fences
-    ///   that makes the model robust, or else of the last set that was tried; `checks`, how often the checker was asked.
+    /// - `help`: `fences` and `updates`, the trials of changes on the cycle; `enough`, the trial of a small set of
+    ///   fences that makes the model robust, or else of the last set that was tried; `checks`, how often the checker
+    ///   was asked.
     ///
     /// A trial has `changes`, which are made together, and `verdict`: `"robust"`, `"not_robust"`, `"undecided"`, or,
     /// where the checker was not asked, `"no_room"` (the limits of a model), `"no_line"` (the language has none) or
-    /// `"untried"` (enough others were). A change has `change` and `thread`. A `"fence"` has `after_line`, the line that
-    /// it comes directly after, and `before_line`, that of the later access; an `"update"`, a read-modify-write in place
-    /// of an access, has `line`.
+    /// `"untried"` (enough others were). A change has `change` and `thread`. A `"fence"` has `after_line`, the line
+    /// that it comes directly after, and `before_line`, that of the later access; an `"update"`, a read-modify-write
+    /// in place of an access, has `line`. Threads that share lines of the text are changed together.
     pub fn json(&self) -> Json {
         let execution = &self.execution;
         let ids = |order: &Vec<usize>| Json::list(order.iter().copied(), Json::from);

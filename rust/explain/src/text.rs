@@ -64,14 +64,15 @@ impl Explanation {
     fn stale_access(&self) -> String {
         let stale = self.execution.stale();
         let (picked, newest) = (self.write(self.execution.picked), self.write(self.execution.newest));
-        let (step, name) = (self.step(stale), self.location(stale));
+        let name = self.location(stale);
         let may = match self.execution.events[stale].kind {
             Kind::Read => format!("read {picked}"),
             Kind::Write => format!("write {name} directly after {picked}"),
             Kind::Update => format!("read {picked}, and write directly after it"),
         };
+        let place = self.place(stale);
         let words = format!(
-            "Step {step} is not SC: release/acquire lets it {may}, although the newest write is {newest}."
+            "Step {place} is not SC: release/acquire lets it {may}, although the newest write is {newest}."
         );
         wrapped("", &words)
     }
@@ -84,16 +85,8 @@ impl Explanation {
     }
 
     fn edge_row(&self, Edge { from, to, relation }: Edge) -> Vec<String> {
-        let place = self.execution.step_of(from).map_or_else(String::new, |step| {
-            format!("thread {}  line {}", step.thread + 1, self.text_line(step.thread, step.line))
-        });
-        vec![
-            self.step(from).to_string(),
-            place,
-            self.access(from),
-            relation.words().into(),
-            self.step(to).to_string(),
-            self.access(to),
-        ]
+        let before = [vec![self.step(from).to_string()], self.thread_and_line(from), vec![self.access(from)]];
+        let after = [relation.words().into(), self.step(to).to_string(), self.access(to)];
+        before.concat().into_iter().chain(after).collect()
     }
 }

@@ -113,3 +113,12 @@ fn no_other_line_becomes_a_read_modify_write() {
         assert_eq!(changed(&program, &[Change::Update { thread: 0, line: 0 }]), None, "{line}");
     }
 }
+
+#[test]
+fn a_line_that_is_not_there_is_not_changed() {
+    let program = program("x", "x := 1\nr0 := x\n");
+    for (thread, line) in [(0, 2), (1, 0)] {
+        assert_eq!(changed(&program, &[Change::Update { thread, line }]), None);
+        assert_eq!(changed(&program, &[fence(thread, line)]), None);
+    }
+}

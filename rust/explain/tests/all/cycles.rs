@@ -40,7 +40,7 @@ fn a_thousand_random_programs_have_a_cycle() {
     programs.iter().for_each(has_a_cycle);
 }
 
-/// How many edges lead from the stale access back to it, by the relations that `holds` knows and no search of the crate.
+/// How many edges lead from the stale access back to it, by what holds and not by the search of the crate.
 fn shortest(execution: &Execution) -> usize {
     let all = 0..execution.events.len();
     let related = |from, to| RELATIONS.iter().any(|&relation| holds(execution, Edge { from, to, relation }));

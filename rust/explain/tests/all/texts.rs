@@ -16,8 +16,8 @@ The run:
      3       2    10  y := 1     writes y = 1
      4       2    11  r0 := x    reads x = 0 (starting value)
 
-Step 4 is not SC: release/acquire lets it read x = 0, the starting value,
-although the newest write is x = 1 of step 1 (thread 1, line 7).
+Step 4 (thread 2, line 11) is not SC: release/acquire lets it read x = 0, the
+starting value, although the newest write is x = 1 of step 1 (thread 1, line 7).
 
 No SC run can do this, as each of these would have to come before the next:
   4  thread 2  line 11  reads x = 0   read older than  1  writes x = 1
@@ -52,8 +52,10 @@ fn a_stale_write_goes_after_an_older_one() {
     assert!(run.starts_with("The run (* marks the cycle):\n"), "{run}");
     assert!(run.contains("\n      1       1     8  a := 1     writes a = 1\n"), "{run}");
     assert!(run.contains("\n*     2       1     9  turn := 1  writes turn = 1\n"), "{run}");
-    let expected = "Step 5 is not SC: release/acquire lets it write turn directly after turn = 0,\n\
-        the starting value, although the newest write is turn = 1 of step 2 (thread 1,\nline 9).";
+    let expected = "\
+Step 5 (thread 2, line 24) is not SC: release/acquire lets it write turn
+directly after turn = 0, the starting value, although the newest write is
+turn = 1 of step 2 (thread 1, line 9).";
     assert_eq!(stale, expected);
     let first = "5  thread 2  line 24  writes turn = 0  written before   2  writes turn = 1\n";
     assert!(cycle.contains(first), "{cycle}");
@@ -85,8 +87,11 @@ fn a_read_modify_write_has_both_values() {
 fn a_stale_read_modify_write_uses_an_older_write() {
     let text = "values 3\nlocations x y\nthread\nx := 2\nr0 := y\nthread\ny := 1\nr0 := FADD(x, 1)\n";
     let words = explained(&of_source("stale", source(text)).unwrap()).words(false);
-    let stale = "Step 4 is not SC: release/acquire lets it read x = 0, the starting value, and\n\
-        write directly after it, although the newest write is x = 2 of step 1 (thread 1,\nline 4).\n";
+    let stale = "\
+Step 4 (thread 2, line 8) is not SC: release/acquire lets it read x = 0, the
+starting value, and write directly after it, although the newest write is x = 2
+of step 1 (thread 1, line 4).
+";
     assert!(words.contains(stale), "{words}");
     assert!(
         words.contains("  4  thread 2  line 8  x: 0 -> 1     written before   1  writes x = 2\n"),
