@@ -4,17 +4,17 @@ use program::Line;
 
 use crate::change::Change;
 use crate::explanation::Explanation;
-use crate::table::wrapped;
+use crate::table::{wrapped, KEPT};
 use crate::trial::{Trial, Verdict};
 
 /// The verdicts in the order in which they are shown, each with its word and what is said of a change with it.
 const VERDICTS: [(Verdict, &str, &str); 6] = [
     (Verdict::Robust, "robust", ""),
     (Verdict::NotRobust, "not robust", ""),
-    (Verdict::Undecided, "undecided", ""),
-    (Verdict::NoRoom, "not tried", " (no room for it: a location or a line is missing)"),
-    (Verdict::NoLine, "not tried", " (the language has none)"),
-    (Verdict::Untried, "not tried", " (enough others were)"),
+    (Verdict::Undecided, "undecided", ": the checker came to no end"),
+    (Verdict::NoRoom, "not tried", ": the limits of a model leave no room"),
+    (Verdict::NoLine, "not tried", ": the language has none"),
+    (Verdict::Untried, "not tried", ": enough others were"),
 ];
 
 impl Explanation {
@@ -34,23 +34,19 @@ impl Explanation {
         text
     }
 
-    /// Those that were tried, and last all others together.
+    /// Those that the language has lines for, and last the others together.
     fn trials(&self) -> Vec<Trial> {
         let help = &self.help;
         let mut trials = help.fences.clone();
         if !trials.iter().any(|trial| trial.changes == help.enough.changes) {
             trials.push(help.enough.clone());
         }
-        let has_line = |trial: &&Trial| trial.verdict != Verdict::NoLine;
-        trials.extend(help.updates.iter().filter(has_line).cloned());
-        let without: Vec<Change> = help
-            .updates
-            .iter()
-            .filter(|trial| !has_line(trial))
-            .flat_map(|trial| trial.changes.clone())
-            .collect();
-        if !without.is_empty() {
-            trials.push(Trial { changes: without, verdict: Verdict::NoLine });
+        let (without_line, tried): (Vec<Trial>, Vec<Trial>) =
+            help.updates.iter().cloned().partition(|trial| trial.verdict == Verdict::NoLine);
+        trials.extend(tried);
+        let changes: Vec<Change> = without_line.into_iter().flat_map(|trial| trial.changes).collect();
+        if !changes.is_empty() {
+            trials.push(Trial { changes, verdict: Verdict::NoLine });
         }
         trials
     }
@@ -65,32 +61,36 @@ impl Explanation {
         }
         match places[..] {
             [Change::Fence { thread, after, before }] => {
-                let [after, before] = [after, before].map(|line| self.statement(thread, line));
+                let [after, before] = [after, before].map(|line| self.line(thread, line));
                 format!("a fence between {after} and {before}")
             }
             [Change::Update { thread, line }] => {
-                format!("{} in place of {}", self.update(thread, line), self.statement(thread, line))
+                format!("{} in place of {}", self.update(thread, line), self.line(thread, line))
             }
             [Change::Fence { .. }, ..] => format!("fences after lines {}", self.lines(&places)),
             _ if trial.verdict == Verdict::NoLine => {
-                format!("an atomic exchange in place of the writes in lines {}", self.lines(&places))
+                format!("atomic exchanges in place of the writes in lines {}", self.lines(&places))
             }
             _ => format!("read-modify-writes in place of lines {}", self.lines(&places)),
         }
     }
 
     /// `line 7 (x := 1)`
-    fn statement(&self, thread: usize, line: usize) -> String {
-        let statement = &self.source.statements[thread][line];
-        format!("line {} ({})", statement.line, statement.text)
+    fn line(&self, thread: usize, line: usize) -> String {
+        let text = self.statement(thread, line);
+        format!("line {} ({})", self.text_line(thread, line), text.replace(' ', KEPT))
     }
 
-    /// The read-modify-write that would stand in place of a line.
+    /// The read-modify-write that would stand in place of a line, with the value of a wait as it is written.
     fn update(&self, thread: usize, line: usize) -> String {
         let name = |location: u8| &self.source.locations[usize::from(location)];
         match self.source.program.threads[thread][line] {
-            Line::Read { location, .. } => format!("FADD({}, 0)", name(location)),
-            Line::Wait { location, .. } => format!("a BCAS of {} that keeps its value", name(location)),
+            Line::Read { location, .. } => format!("FADD({},{KEPT}0)", name(location)),
+            Line::Wait { location, .. } => {
+                let text = self.statement(thread, line);
+                let value = text.rsplit('=').next().unwrap_or_default().trim_matches([' ', ')']);
+                format!("BCAS({}, {value} -> {value})", name(location)).replace(' ', KEPT)
+            }
             _ => "an atomic exchange".into(),
         }
     }

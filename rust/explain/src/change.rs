@@ -35,8 +35,8 @@ pub struct Changed {
     pub lines: Vec<Vec<Option<usize>>>,
 }
 
-/// The program with the changes; nothing where its limits leave no room, or a line has no counterpart that is a
-/// read-modify-write.
+/// The program with the changes; nothing where its limits leave no room, a line has no counterpart that is a
+/// read-modify-write, or there is no such line.
 ///
 /// There is no fence in the language yet: one is `FADD(f, 0)`, where f is a location of its own that all fences share.
 /// As a read-modify-write always comes directly after the write that it reads, each reads the one before it.
@@ -46,10 +46,11 @@ pub fn changed(program: &Program, changes: &[Change]) -> Option<Changed> {
     for &change in changes {
         match change {
             Change::Fence { thread, after, .. } => {
+                program.threads.get(thread)?.get(after)?;
                 fences[thread].insert(after);
             }
             Change::Update { thread, line } => {
-                let line = &mut threads[thread][line];
+                let line = threads.get_mut(thread)?.get_mut(line)?;
                 *line = counterpart(line)?;
             }
         }

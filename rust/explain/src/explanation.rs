@@ -42,8 +42,8 @@ pub enum Unexplained {
 }
 
 impl Explanation {
-    /// The explanation of a report NR and its steps on a model. The checker is asked about changes of the model, at most
-    /// [`MOST_CHECKS`](crate::MOST_CHECKS) times.
+    /// The explanation of a report NR and its steps on a model. The checker is asked about changes of the model, no
+    /// more than [`MOST_CHECKS`](crate::MOST_CHECKS) times.
     ///
     /// Graph and cycle are checked by the definitions before anything is said of them.
     pub fn of(
@@ -120,3 +120,60 @@ impl Display for Unexplained {
 }
 
 impl Error for Unexplained {}
+
+#[cfg(test)]
+mod tests {
+    use answer::{Access, Kind, Report, Step};
+    use models::Source;
+
+    use super::{verify, Edge, Execution, Unexplained};
+    use crate::edge::Relation;
+
+    /// Store buffering.
+    fn execution() -> Execution {
+        let text = b"values 2\nlocations x y\nthread\nx := 1\nr0 := y\nthread\ny := 1\nr0 := x\n";
+        let step =
+            |thread, kind, location, value| Step { thread, access: Some(Access { kind, location, value }) };
+        let steps = [step(1, Kind::Write, 0, 1), step(1, Kind::Read, 1, 0), step(2, Kind::Write, 1, 1)];
+        let report =
+            Report::NotRobust { count: 7, steps: 3, thread: 2, kind: Kind::Read, location: 0, value: 0 };
+        Execution::of(&Source::of_text(text).unwrap().program, &report, &steps).unwrap()
+    }
+
+    #[test]
+    fn a_cycle_that_does_not_hold_is_no_explanation() {
+        let execution = execution();
+        let cycle = execution.cycle().unwrap();
+        assert_eq!(verify(&execution, &cycle), Ok(()));
+        for place in 0..cycle.len() {
+            let mut damaged = cycle.clone();
+            damaged[place].relation = Relation::ReadsFrom;
+            assert_eq!(verify(&execution, &damaged), Err(Unexplained::NoEdge(damaged[place])));
+        }
+    }
+
+    #[test]
+    fn what_is_no_cycle_through_the_stale_access_is_no_explanation() {
+        let execution = execution();
+        let cycle = execution.cycle().unwrap();
+        let rotated: Vec<Edge> = cycle.iter().cycle().skip(1).take(cycle.len()).copied().collect();
+        for other in [&[][..], &cycle[1..], &cycle[..1], &rotated] {
+            assert_eq!(verify(&execution, other), Err(Unexplained::NotClosed), "{other:?}");
+        }
+    }
+
+    #[test]
+    fn each_reason_has_its_words() {
+        let edge = Edge { from: 1, to: 2, relation: Relation::FromRead };
+        for (why, words) in [
+            (Unexplained::AnotherText, "the text of the model is not that of its program"),
+            (Unexplained::AnotherReport, "the report is not NR, or not on this model"),
+            (Unexplained::NoGraph("why"), "the run leaves no execution graph: why"),
+            (Unexplained::NoCycle, "no cycle was found in the graph of the run"),
+            (Unexplained::NotClosed, "what was found is no cycle through the stale access"),
+            (Unexplained::NoEdge(edge), "FromRead does not relate event 1 to event 2"),
+        ] {
+            assert_eq!(why.to_string(), words);
+        }
+    }
+}

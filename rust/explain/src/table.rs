@@ -26,12 +26,15 @@ fn padded(cell: &str, width: usize) -> String {
     }
 }
 
+/// A blank at which no line ends.
+pub const KEPT: &str = "\u{a0}";
+
 /// The words in lines of at most [`WIDTH`] columns where they allow it: the first starts with `first`, the others with
 /// as many blanks.
 pub fn wrapped(first: &str, words: &str) -> String {
     let indent = " ".repeat(wide(first));
     let mut lines: Vec<String> = vec![];
-    for word in words.split_whitespace() {
+    for word in words.split(' ') {
         match lines.last_mut() {
             Some(line) if wide(&indent) + wide(line) + 1 + wide(word) <= WIDTH => {
                 *line += &format!(" {word}")
@@ -39,8 +42,8 @@ pub fn wrapped(first: &str, words: &str) -> String {
             _ => lines.push(word.into()),
         }
     }
-    let text: String = lines.iter().map(|line| format!("{indent}{line}\n")).collect();
-    text.replacen(&indent, first, 1)
+    let starts = std::iter::once(first).chain(std::iter::repeat(indent.as_str()));
+    lines.iter().zip(starts).map(|(line, start)| format!("{start}{}\n", line.replace(KEPT, " "))).collect()
 }
 
 fn wide(text: &str) -> usize {

@@ -34,25 +34,25 @@ impl Explanation {
     }
 
     fn step_row(&self, place: usize, step: &Taken, is_marked: bool) -> Vec<String> {
-        let statement = &self.source.statements[step.thread][step.line];
         let mark = if is_marked && self.is_on_cycle(step) { "*" } else { "" };
         vec![
             mark.into(),
             (place + 1).to_string(),
             (step.thread + 1).to_string(),
-            statement.line.to_string(),
-            statement.text.clone(),
+            self.text_line(step.thread, step.line).to_string(),
+            self.statement(step.thread, step.line),
             step.event.map_or_else(String::new, |event| self.effect(event)),
         ]
     }
 
     /// What an access does, and whose value it reads.
     fn effect(&self, event: usize) -> String {
-        let access = self.access(event);
-        match self.execution.events[event].source.map(|write| self.step(write)) {
-            None => access,
-            Some(0) => format!("{access} (starting value)"),
-            Some(step) => format!("{access} of step {step}"),
+        let (access, what) = (self.access(event), &self.execution.events[event]);
+        match (what.kind, what.source.map(|write| self.step(write))) {
+            (_, None) => access,
+            (_, Some(0)) => format!("{access} (starting value)"),
+            (Kind::Update, Some(step)) => format!("{access}, directly after step {step}"),
+            (_, Some(step)) => format!("{access} of step {step}"),
         }
     }
 
@@ -64,14 +64,15 @@ impl Explanation {
     fn stale_access(&self) -> String {
         let stale = self.execution.stale();
         let (picked, newest) = (self.write(self.execution.picked), self.write(self.execution.newest));
-        let (step, name) = (self.step(stale), self.location(stale));
+        let name = self.location(stale);
         let may = match self.execution.events[stale].kind {
             Kind::Read => format!("read {picked}"),
             Kind::Write => format!("write {name} directly after {picked}"),
             Kind::Update => format!("read {picked}, and write directly after it"),
         };
+        let place = self.place(stale);
         let words = format!(
-            "Step {step} is not SC: release/acquire lets it {may}, although the newest write is {newest}."
+            "Step {place} is not SC: release/acquire lets it {may}, although the newest write is {newest}."
         );
         wrapped("", &words)
     }
@@ -84,16 +85,8 @@ impl Explanation {
     }
 
     fn edge_row(&self, Edge { from, to, relation }: Edge) -> Vec<String> {
-        let place = self.execution.step_of(from).map_or_else(String::new, |step| {
-            format!("thread {}  line {}", step.thread + 1, self.text_line(step.thread, step.line))
-        });
-        vec![
-            self.step(from).to_string(),
-            place,
-            self.access(from),
-            relation.words().into(),
-            self.step(to).to_string(),
-            self.access(to),
-        ]
+        let before = [vec![self.step(from).to_string()], self.thread_and_line(from), vec![self.access(from)]];
+        let after = [relation.words().into(), self.step(to).to_string(), self.access(to)];
+        before.concat().into_iter().chain(after).collect()
     }
 }

@@ -109,3 +109,61 @@ impl<'a> Trials<'a> {
         Trial { changes: changes.to_vec(), verdict: self.outcome(changes).verdict() }
     }
 }
+
+#[cfg(test)]
+mod tests {
+    use program::{Line, Operand, Program};
+
+    use super::{Change, Checked, Trials, Verdict, MOST_CHECKS};
+
+    fn fence(after: usize) -> Change {
+        Change::Fence { thread: 0, after, before: after + 1 }
+    }
+
+    /// A program of 63 lines.
+    fn long() -> Program {
+        let line = Line::Write { location: 0, a: Operand::Constant(1) };
+        Program { threads: vec![vec![line; 63]], locations: 1, values: 2 }
+    }
+
+    #[test]
+    fn the_checker_is_asked_no_more_often_than_that() {
+        let program = long();
+        let mut asked = 0;
+        let mut check = |_: &Program| {
+            asked += 1;
+            Checked::Undecided
+        };
+        let mut trials = Trials::new(&program, &mut check);
+        for after in 0..60 {
+            let expected = if after < MOST_CHECKS { Verdict::Undecided } else { Verdict::Untried };
+            assert_eq!(trials.trial(&[fence(after)]).verdict, expected, "{after}");
+        }
+        assert_eq!(trials.checks(), MOST_CHECKS);
+        assert_eq!(asked, MOST_CHECKS);
+    }
+
+    #[test]
+    fn what_was_asked_is_not_asked_again() {
+        let program = long();
+        let mut answers = vec![Checked::Robust, Checked::Undecided];
+        let mut check = |_: &Program| answers.pop().unwrap();
+        let mut trials = Trials::new(&program, &mut check);
+        for _ in 0..3 {
+            assert_eq!(trials.trial(&[fence(0)]).verdict, Verdict::Undecided);
+            assert_eq!(trials.trial(&[fence(1), fence(1)]).verdict, Verdict::Robust);
+            assert_eq!(trials.trial(&[fence(1)]).verdict, Verdict::Robust);
+        }
+        assert_eq!(trials.checks(), 2);
+    }
+
+    #[test]
+    fn it_is_not_asked_where_the_answer_is_known() {
+        let program = long();
+        let mut check = |_: &Program| panic!("asked");
+        let mut trials = Trials::new(&program, &mut check);
+        assert_eq!(trials.trial(&[]).verdict, Verdict::NotRobust);
+        assert_eq!(trials.trial(&[fence(0), fence(1)]).verdict, Verdict::NoRoom);
+        assert_eq!(trials.checks(), 0);
+    }
+}

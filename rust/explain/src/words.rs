@@ -3,12 +3,20 @@
 use answer::Kind;
 
 use crate::edge::Relation;
+use crate::execution::Taken;
 use crate::explanation::Explanation;
+use crate::table::KEPT;
 
 impl Explanation {
     /// The line of the text, from 1, of a line of a thread.
     pub(crate) fn text_line(&self, thread: usize, line: usize) -> usize {
         self.source.statements[thread][line].line
+    }
+
+    /// A line of a thread as it is written, with single blanks.
+    pub(crate) fn statement(&self, thread: usize, line: usize) -> String {
+        let words: Vec<&str> = self.source.statements[thread][line].text.split_whitespace().collect();
+        words.join(" ")
     }
 
     /// The name of the location of an event.
@@ -31,15 +39,26 @@ impl Explanation {
     /// A write with its value: `x = 1 of step 3 (thread 2, line 7)` or `x = 0, the starting value`.
     pub(crate) fn write(&self, event: usize) -> String {
         let value = self.execution.events[event].written.unwrap_or_default();
-        let name = self.location(event);
+        let write = format!("{} = {value}", self.location(event)).replace(' ', KEPT);
         match self.execution.step_of(event) {
-            None => format!("{name} = {value}, the starting value"),
-            Some(step) => {
-                let (number, thread) = (self.step(event), step.thread + 1);
-                let line = self.text_line(step.thread, step.line);
-                format!("{name} = {value} of step {number} (thread {thread}, line {line})")
-            }
+            None => format!("{write}, the starting value"),
+            Some(_) => format!("{write} of step {}", self.place(event)),
         }
+    }
+
+    /// The step that made an event: `3 (thread 2, line 7)`.
+    pub(crate) fn place(&self, event: usize) -> String {
+        format!("{} ({})", self.step(event), self.thread_and_line(event).join(", "))
+    }
+
+    /// `thread 2` and `line 7`; nothing for a starting write.
+    pub(crate) fn thread_and_line(&self, event: usize) -> Vec<String> {
+        let step = self.execution.step_of(event).into_iter();
+        let parts = |step: &Taken| {
+            let line = self.text_line(step.thread, step.line);
+            [format!("thread {}", step.thread + 1), format!("line {line}")]
+        };
+        step.flat_map(parts).collect()
     }
 
     /// The number of the step that made the event, from 1; 0 for a starting write.

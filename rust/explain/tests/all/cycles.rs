@@ -9,7 +9,7 @@ const RELATIONS: [Relation; 4] =
     [Relation::ProgramOrder, Relation::ReadsFrom, Relation::ModificationOrder, Relation::FromRead];
 
 /// The graph of a report and the cycle in it.
-fn cycle_of(Reported { name, program, report, steps }: &Reported) -> (Execution, Vec<Edge>) {
+fn cycle_of(Reported { name, program, report, steps, .. }: &Reported) -> (Execution, Vec<Edge>) {
     let execution = Execution::of(program, report, steps).unwrap_or_else(|| panic!("{name} is not replayed"));
     let cycle = execution.cycle().unwrap_or_else(|| panic!("{name} has no cycle"));
     (execution, cycle)
@@ -40,7 +40,7 @@ fn a_thousand_random_programs_have_a_cycle() {
     programs.iter().for_each(has_a_cycle);
 }
 
-/// How many edges lead from the stale access back to it, by the relations that `holds` knows and no search of the crate.
+/// How many edges lead from the stale access back to it, by what holds and not by the search of the crate.
 fn shortest(execution: &Execution) -> usize {
     let all = 0..execution.events.len();
     let related = |from, to| RELATIONS.iter().any(|&relation| holds(execution, Edge { from, to, relation }));

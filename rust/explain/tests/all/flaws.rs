@@ -5,7 +5,7 @@ use explain::{flaw, Execution};
 
 use crate::reported::{model, random_not_robust, Reported};
 
-fn execution(Reported { name, program, report, steps }: &Reported) -> Execution {
+fn execution(Reported { name, program, report, steps, .. }: &Reported) -> Execution {
     Execution::of(program, report, steps).unwrap_or_else(|| panic!("{name} is not replayed"))
 }
 
