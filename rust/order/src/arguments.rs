@@ -17,6 +17,10 @@ pub struct Task {
     pub verbose: bool,
     /// Whether nothing is said between tables.
     pub quiet: bool,
+    /// The file that gets the page.
+    pub html: Option<String>,
+    /// The file that gets the graph for graphviz.
+    pub dot: Option<String>,
 }
 
 /// What standard output gets.
@@ -46,7 +50,9 @@ pub fn parse(arguments: Vec<String>) -> Result<Asked, String> {
             "--expect" => task.show(Show::Expected)?,
             "-v" | "--verbose" => task.verbose = true,
             "-q" | "--quiet" => task.quiet = true,
-            "--table" => task.table = Some(size(&arguments.next().ok_or("expected a size after --table")?)?),
+            "--table" => task.table = Some(size(&value(&argument, "a size", &mut arguments)?)?),
+            "--html" => task.html = Some(value(&argument, "a file", &mut arguments)?),
+            "--dot" => task.dot = Some(value(&argument, "a file", &mut arguments)?),
             "--" => task.files.extend(arguments.by_ref()),
             "-" => task.files.push(argument),
             option if option.starts_with('-') => match option.strip_prefix("--table=") {
@@ -56,16 +62,35 @@ pub fn parse(arguments: Vec<String>) -> Result<Asked, String> {
             _ => task.files.push(argument),
         }
     }
-    if task.files.is_empty() {
-        return Err("expected a file, or - for standard input".into());
-    }
-    if task.files.iter().filter(|file| *file == "-").count() > 1 {
-        return Err("standard input can be read once".into());
-    }
-    Ok(Asked::Task(task))
+    task.fits().map(|()| Asked::Task(task))
+}
+
+/// What follows an option.
+fn value(option: &str, what: &str, arguments: &mut impl Iterator<Item = String>) -> Result<String, String> {
+    arguments.next().ok_or_else(|| format!("expected {what} after {option}"))
 }
 
 impl Task {
+    /// Whether it asks for a page or a graph.
+    pub fn draws(&self) -> bool {
+        self.html.is_some() || self.dot.is_some()
+    }
+
+    /// Whether its parts go together.
+    fn fits(&self) -> Result<(), String> {
+        if self.files.is_empty() {
+            Err("expected a file, or - for standard input".into())
+        } else if self.files.iter().filter(|file| *file == "-").count() > 1 {
+            Err("standard input can be read once".into())
+        } else if self.draws() && self.files.len() > 1 {
+            Err("--html and --dot are for one model".into())
+        } else if self.draws() && self.show == Show::Expected {
+            Err("--expect goes with neither --html nor --dot".into())
+        } else {
+            Ok(())
+        }
+    }
+
     fn show(&mut self, show: Show) -> Result<(), String> {
         if self.show != Show::Report && self.show != show {
             return Err("--explain, --json and --expect exclude each other".into());

@@ -4,6 +4,7 @@
 mod arguments;
 mod data;
 mod decide;
+mod draw;
 mod input;
 mod memory;
 mod printing;

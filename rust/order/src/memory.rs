@@ -24,7 +24,8 @@ fn field(name: &str) -> Option<usize> {
 /// A number of bytes for people.
 pub fn shown(bytes: usize) -> String {
     const UNITS: [(&str, usize); 3] = [("GiB", 1 << 30), ("MiB", 1 << 20), ("KiB", 1 << 10)];
-    match UNITS.into_iter().find(|&(_, unit)| bytes >= unit) {
+    // A little less than a unit is shown as one.
+    match UNITS.into_iter().find(|&(_, unit)| bytes >= unit - unit / 100) {
         None => format!("{bytes} bytes"),
         Some((name, unit)) if bytes.is_multiple_of(unit) => format!("{} {name}", bytes / unit),
         Some((name, unit)) => format!("{:.1} {name}", bytes as f64 / unit as f64),
@@ -39,11 +40,13 @@ mod tests {
     fn bytes_are_shown_in_the_largest_unit() {
         let cases = [
             (0, "0 bytes"),
-            (1023, "1023 bytes"),
+            (1013, "1013 bytes"),
+            (1020, "1.0 KiB"),
             (1024, "1 KiB"),
             (49_152, "48 KiB"),
             (1536, "1.5 KiB"),
             (3 << 20, "3 MiB"),
+            ((1 << 30) - 70, "1.0 GiB"),
             (1 << 30, "1 GiB"),
             ((1 << 30) + (1 << 29), "1.5 GiB"),
         ];

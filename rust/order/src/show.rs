@@ -2,15 +2,17 @@
 
 use answer::Report;
 use command::tell;
+use explain::Explanation;
 use models::collection::{expected, Verdict};
 
 use crate::arguments::{Show, Task};
 use crate::data::json;
 use crate::decide::{decide, Decided};
+use crate::draw::draw;
 use crate::input::Input;
 use crate::reason::explanation;
 use crate::status::Status;
-use crate::words::{check, effort, words};
+use crate::words::{check, effort, meaning};
 
 /// The text for standard output and the status, or what went wrong.
 pub fn shown(input: &Input, task: &Task) -> Result<(String, Status), String> {
@@ -20,10 +22,9 @@ pub fn shown(input: &Input, task: &Task) -> Result<(String, Status), String> {
     }
     let text = match task.show {
         Show::Expected => return as_expected(input, &decided.report),
-        Show::Json => format!("{}\n", json(input, &decided)?),
-        Show::Words => explained(input, &decided, task)?,
-        Show::Report if task.files.len() > 1 => named(input, &decided.report),
-        Show::Report => lines(&decided),
+        Show::Report if !task.draws() && task.files.len() > 1 => named(input, &decided.report),
+        Show::Report if !task.draws() => lines(&decided),
+        _ => with_reasons(input, &decided, task)?,
     };
     Ok((text, Status::of(&decided.report)))
 }
@@ -39,18 +40,33 @@ fn named(input: &Input, report: &Report) -> String {
     format!("{}: {report}\n", input.name)
 }
 
-/// The first line and what it means; of several files with the name, and apart from the next.
-fn explained(input: &Input, decided: &Decided, task: &Task) -> Result<String, String> {
-    let meaning = match explanation(input, decided)? {
-        Some(explanation) if task.verbose => explanation.words(true) + "\n" + &effort(decided),
-        Some(explanation) => explanation.words(false),
-        None => words(input, decided, task.verbose),
-    };
-    Ok(if task.files.len() > 1 {
-        format!("{}\n{meaning}\n", named(input, &decided.report))
-    } else {
-        format!("{}\n\n{meaning}", decided.report)
+/// What is shown where the reasons are asked for, in whatever form.
+fn with_reasons(input: &Input, decided: &Decided, task: &Task) -> Result<String, String> {
+    let explanation = explanation(input, decided)?;
+    let explanation = explanation.as_ref();
+    let words = words(input, decided, explanation, task.verbose);
+    if let Some(instead) = draw(input, decided, explanation, &words, task)? {
+        return Ok(instead);
+    }
+    Ok(match task.show {
+        Show::Json => format!("{}\n", json(input, decided, explanation)),
+        Show::Words if task.files.len() > 1 => format!("{}\n{words}\n", named(input, &decided.report)),
+        Show::Words => format!("{}\n\n{words}", decided.report),
+        Show::Report | Show::Expected => lines(decided),
     })
+}
+
+/// What the report means.
+fn words(input: &Input, decided: &Decided, explanation: Option<&Explanation>, verbose: bool) -> String {
+    let meaning = match explanation {
+        Some(explanation) => explanation.words(verbose),
+        None => meaning(input, decided),
+    };
+    if verbose {
+        format!("{meaning}\n{}", effort(decided))
+    } else {
+        meaning
+    }
 }
 
 /// Whether the verdict is that of the model's own `# expect` line.

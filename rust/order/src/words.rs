@@ -7,20 +7,15 @@ use crate::decide::{seconds, Decided};
 use crate::input::Input;
 use crate::memory::shown;
 
-/// The words of a report that has no graph; none for a verdict that is not known.
-pub fn words(input: &Input, decided: &Decided, verbose: bool) -> String {
-    let meaning = match (&decided.report, &input.source) {
+/// What a report means that has no graph; nothing for a verdict that is not known.
+pub fn meaning(input: &Input, decided: &Decided) -> String {
+    match (&decided.report, &input.source) {
         (Report::Robust { .. }, Some(source)) => robust(&source.program),
         (Report::Full { count }, _) => full(*count, decided),
         (Report::Refused { number }, _) => {
             format!("No program: check {number} failed: {}.\n", check(*number))
         }
         _ => String::new(),
-    };
-    if verbose {
-        format!("{meaning}\n{}", effort(decided))
-    } else {
-        meaning
     }
 }
 
@@ -74,7 +69,8 @@ fn full(count: usize, decided: &Decided) -> String {
 
 /// What the search took.
 pub fn effort(decided: &Decided) -> String {
-    let (Report::Robust { count } | Report::NotRobust { count, .. } | Report::Full { count }) = decided.report
+    let (Report::Robust { count } | Report::NotRobust { count, .. } | Report::Full { count }) =
+        decided.report
     else {
         return String::new();
     };

@@ -4,6 +4,8 @@
 mod files;
 mod output;
 mod printing;
+mod readme;
+mod reasons;
 mod script;
 mod tables;
 mod user;

@@ -8,6 +8,12 @@ use std::process::Command;
 
 use crate::user::{checker, ends, ends_quietly, finish, folder, SB, SB_LINES};
 
+/// What the script uses of the system, beside what builds.
+const TOOLS: [&str; 14] = [
+    "bash", "cat", "cp", "dirname", "env", "find", "mkdir", "mktemp", "readlink", "rm", "sed", "sh", "tee",
+    "touch",
+];
+
 /// A tree with the script, and with all that it builds unless `bare`.
 struct Tree {
     root: PathBuf,
@@ -21,6 +27,14 @@ impl Tree {
         fs::write(tree.root.join("sb"), SB).unwrap();
         for source in ["crates/a", "crates.txt", "rust/Cargo.toml", "tools/none"] {
             tree.write(source, "");
+        }
+        for tool in TOOLS {
+            let found = ["/usr/bin", "/bin"]
+                .map(|folder| Path::new(folder).join(tool))
+                .into_iter()
+                .find(|it| it.exists());
+            symlink(found.unwrap_or_else(|| panic!("no {tool}")), tree.root.join("tools").join(tool))
+                .unwrap();
         }
         if !bare {
             tree.copy(&checker(), "target/bin/order_check");
@@ -48,18 +62,13 @@ impl Tree {
         fs::set_permissions(self.root.join(name), PermissionsExt::from_mode(0o755)).unwrap();
     }
 
-    /// A shell that knows no other tools than the system's own and those of this tree.
+    /// A shell that knows no other tools than [`TOOLS`] and those of this tree.
     fn shell(&self, line: &str) -> Command {
-        let mut command = Command::new("sh");
-        let path = format!("{}:/usr/bin:/bin", self.root.join("tools").display());
+        let mut command = Command::new("/bin/sh");
+        let path = self.root.join("tools");
         command.args(["-c", line]).env_remove("ORDER_CHECK").env("PATH", path).current_dir(&self.root);
         command
     }
-}
-
-/// Whether the system's own folders have the tools, so that none can be missing.
-fn tools_are_everywhere() -> bool {
-    ["cargo", "rt"].iter().any(|tool| Path::new("/usr/bin").join(tool).exists())
 }
 
 #[test]
@@ -101,9 +110,6 @@ fn a_closed_output_is_a_failure_with_a_message() {
 
 #[test]
 fn a_missing_tool_is_named_with_where_it_comes_from() {
-    if tools_are_everywhere() {
-        return;
-    }
     let tree = Tree::new("no-tools", true);
     let said = ends(&finish(&mut tree.shell("./order sb"), b""), 1, "");
     assert_eq!(
