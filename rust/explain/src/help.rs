@@ -73,7 +73,7 @@ pub(crate) fn fences(
     let fence = |edge: &Edge| {
         let [from, to] = [edge.from, edge.to].map(|event| execution.step_of(event));
         let (thread, after, before) = (from?.thread, line(from?)?, line(to?)?);
-        let fences = equals(source, thread, after).map(|thread| Change::Fence { thread, after, before });
+        let fences = sharing(source, thread, after).map(|thread| Change::Fence { thread, after, before });
         Some(fences.collect())
     };
     let in_program_order = cycle.iter().filter(|edge| edge.relation == Relation::ProgramOrder);
@@ -86,14 +86,14 @@ fn updates(source: &Source, execution: &Execution, cycle: &[Edge]) -> Vec<(Group
     let update = |&Taken { thread, line, .. }: &Taken| {
         let written = &source.program.threads[thread][line];
         let is_plain = matches!(written, Line::Read { .. } | Line::Wait { .. } | Line::Write { .. });
-        let updates = equals(source, thread, line).map(|thread| Change::Update { thread, line });
+        let updates = sharing(source, thread, line).map(|thread| Change::Update { thread, line });
         is_plain.then(|| (updates.collect(), counterpart(written).is_some()))
     };
     in_order(steps.filter_map(update).collect())
 }
 
 /// The threads that have the same line of the text there: the thread, and those that it was written together with.
-fn equals(source: &Source, thread: usize, line: usize) -> impl Iterator<Item = usize> + '_ {
+fn sharing(source: &Source, thread: usize, line: usize) -> impl Iterator<Item = usize> + '_ {
     let place = move |thread: usize| source.statements[thread].get(line).map(|statement| statement.line);
     (0..source.statements.len()).filter(move |&other| place(other) == place(thread))
 }

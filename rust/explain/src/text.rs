@@ -50,8 +50,9 @@ impl Explanation {
         let (access, what) = (self.access(event), &self.execution.events[event]);
         match (what.kind, what.source.map(|write| self.step(write))) {
             (_, None) => access,
+            (Kind::Update, Some(0)) => format!("{access} (from the starting value)"),
+            (Kind::Update, Some(step)) => format!("{access} (from step {step})"),
             (_, Some(0)) => format!("{access} (starting value)"),
-            (Kind::Update, Some(step)) => format!("{access}, directly after step {step}"),
             (_, Some(step)) => format!("{access} of step {step}"),
         }
     }

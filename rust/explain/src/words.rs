@@ -48,7 +48,8 @@ impl Explanation {
 
     /// The step that made an event: `3 (thread 2, line 7)`.
     pub(crate) fn place(&self, event: usize) -> String {
-        format!("{} ({})", self.step(event), self.thread_and_line(event).join(", "))
+        let parts = self.thread_and_line(event).into_iter().map(|part| part.replace(' ', KEPT));
+        format!("{} ({})", self.step(event), parts.collect::<Vec<_>>().join(", "))
     }
 
     /// `thread 2` and `line 7`; nothing for a starting write.

@@ -74,7 +74,7 @@ fn a_read_says_whose_write_it_reads() {
 #[test]
 fn a_read_modify_write_has_both_values() {
     let [run, _, cycle, _] = parts("every-op", false);
-    assert!(run.contains("r3 := FADD(x, 2)        x: 2 -> 1, directly after step 2\n"), "{run}");
+    assert!(run.contains("r3 := FADD(x, 2)        x: 2 -> 1 (from step 2)\n"), "{run}");
     assert!(run.contains("r0 := CAS(x, 1 -> 0)    reads x = 2 of step 2\n"), "{run}");
     assert!(
         cycle.contains("11  thread 1  line 20  x: 1 -> 0     program order    12  reads y = 0\n"),
@@ -110,6 +110,7 @@ fn local_lines_are_shown_when_asked_for() {
     assert!(!run.contains("r0 := r0 + 1"), "{run}");
     let accesses = reported.steps.iter().filter(|step| step.access.is_some()).count();
     assert_eq!(run.lines().count(), 2 + accesses + 1);
+    assert!(run.contains("r2 := FADD(y, 7)  y: 0 -> 7 (from the starting value)\n"), "{run}");
     let [run, ..] = parts("long-run", true);
     assert!(run.starts_with("The run (* marks the cycle):\n"), "{run}");
     assert!(run.contains("\n      1       1     9  r0 := r0 + 1\n"), "{run}");
