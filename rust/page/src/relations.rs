@@ -10,7 +10,7 @@ pub struct Look {
     pub short: &'static str,
     /// Its name.
     pub name: &'static str,
-    /// What its edges lead from and to.
+    /// Where its edges lead, for the legend.
     pub meaning: &'static str,
     /// Its colour on white and on black. They are those of herd7 (po black, rf red, co blue, fr #ffa040), made darker
     /// or lighter where the ground asks for it.
@@ -29,7 +29,7 @@ pub const LOOKS: [Look; 4] = [
         relation: Relation::ProgramOrder,
         short: "po",
         name: "program order",
-        meaning: "from an access to the next one of its thread",
+        meaning: "to the next access of the thread",
         colours: ["#333333", "#d4d4d4"],
         dashes: "none",
         style: "solid",
@@ -39,7 +39,7 @@ pub const LOOKS: [Look; 4] = [
         relation: Relation::ReadsFrom,
         short: "rf",
         name: "reads-from",
-        meaning: "from a write to a read of it",
+        meaning: "from a write to its readers",
         colours: ["#c8001e", "#ff7a7a"],
         dashes: "9 3",
         style: "dashed",
@@ -49,7 +49,7 @@ pub const LOOKS: [Look; 4] = [
         relation: Relation::ModificationOrder,
         short: "mo",
         name: "modification order",
-        meaning: "from a write to the next one of its location (herd: co)",
+        meaning: "to the next write (herd: co)",
         colours: ["#1748d1", "#86b2ff"],
         dashes: "3 3",
         style: "dotted",
@@ -59,7 +59,7 @@ pub const LOOKS: [Look; 4] = [
         relation: Relation::FromRead,
         short: "fr",
         name: "from-read",
-        meaning: "from a read to the write after the one that it read",
+        meaning: "to the write after the one read",
         colours: ["#a35200", "#ffa040"],
         dashes: "9 3 2 3",
         style: "solid",

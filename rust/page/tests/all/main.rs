@@ -1,14 +1,26 @@
+//! All tests of this crate but that in a browser, in one program. They look at the pages of all models, of random
+//! programs and of a crowded one, with the plain checker's reports.
 #![forbid(unsafe_code)]
+
+mod drawing;
+mod edges;
+mod escaping;
+mod geometry;
+mod graphviz;
+mod parts;
+mod picture;
 mod reported;
+mod skip;
+mod xml;
+
+/// A file that no `mod` names would not be compiled, and its tests be lost unseen.
 #[test]
-fn write_all() {
-    let at = std::env::var("PAGES").unwrap();
-    for reported in reported::models().into_iter().chain([reported::crowd()]) {
-        std::fs::write(format!("{at}/{}.html", reported.name), reported.html("Because <so>.\n  And so.\n"))
-            .unwrap();
-        if let Some(graph) = reported.graph() {
-            std::fs::write(format!("{at}/{}.dot", reported.name), page::dot(&reported.source, &graph))
-                .unwrap();
-        }
+fn every_file_here_is_named_above() {
+    let here = std::path::Path::new(env!("CARGO_MANIFEST_DIR")).join("tests/all");
+    for file in std::fs::read_dir(here).unwrap() {
+        let path = file.unwrap().path();
+        let name = path.file_stem().unwrap().to_string_lossy();
+        let is_named = include_str!("main.rs").contains(&format!("\nmod {name};\n"));
+        assert!(name == "main" || is_named, "{}", path.display());
     }
 }

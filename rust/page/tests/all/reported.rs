@@ -1,10 +1,14 @@
 //! Models with their reports, those of the plain checker.
 
+use std::sync::OnceLock;
+
 use answer::{steps_in, Report, Step};
 use explain::{Edge, Execution};
 use models::collection::{self, Model};
-use models::Source;
+use models::{disassemble, Source};
 use page::{Graph, Page};
+use program::{encode, Program};
+use random::{Numbers, Shape};
 
 /// A model, the report on it and, of NR, the graph.
 pub struct Reported {
@@ -21,7 +25,7 @@ impl Reported {
     pub fn on(name: &str, text: &str) -> Reported {
         let source = Source::of_text(text.as_bytes()).unwrap_or_else(|mistake| panic!("{name}:{mistake}"));
         let (mut table, mut trace) = (vec![0; 1_000_000], vec![0; 20_000]);
-        let report = plain::check(&program::encode(&source.program), &mut table, &mut trace);
+        let report = plain::check(&encode(&source.program), &mut table, &mut trace);
         let steps = if let Report::NotRobust { steps, .. } = report { steps } else { 0 };
         let steps = steps_in(&trace[..steps * Step::BYTES]).unwrap();
         let execution = Execution::of(&source.program, &report, &steps);
@@ -33,9 +37,13 @@ impl Reported {
         self.execution.as_ref().map(|execution| Graph { execution, cycle: &self.cycle })
     }
 
-    pub fn html(&self, words: &str) -> String {
+    pub fn page<'a>(&'a self, words: &'a str) -> Page<'a> {
         let Reported { name, text, source, report, .. } = self;
-        Page { name, text, source, report, graph: self.graph(), words }.html()
+        Page { name, text, source, report, graph: self.graph(), words }
+    }
+
+    pub fn html(&self, words: &str) -> String {
+        self.page(words).html()
     }
 }
 
@@ -50,7 +58,7 @@ pub fn models() -> Vec<Reported> {
 }
 
 /// Eight threads that take turns, each with accesses to several locations, and then store buffering.
-pub fn crowd() -> Reported {
+fn crowd() -> Reported {
     let thread = |number: usize| {
         let own = ["a", "b", "c", "d"][number % 4];
         let other = ["b", "c", "d", "e"][number * 3 % 4];
@@ -67,4 +75,30 @@ pub fn crowd() -> Reported {
     };
     let threads: String = (0..8).map(thread).collect();
     Reported::on("crowd.order", &format!("values 16\nlocations turn a b c d e f g\n{threads}"))
+}
+
+/// So many random programs that are not robust, of which the longest has some dozen steps.
+fn random(count: usize) -> Vec<Reported> {
+    let mut numbers = Numbers::new(2019);
+    let shapes = [Shape::litmus(), Shape::winding(), Shape::racing(), Shape::looping(), Shape::wide()];
+    let programs = (0..).map(|number| random::program(&mut numbers, &shapes[number % shapes.len()]));
+    let reported = |(number, program): (usize, Program)| {
+        let text = disassemble(&encode(&program)).unwrap();
+        Reported::on(&format!("program {number}"), &text)
+    };
+    programs.enumerate().map(reported).filter(|reported| reported.execution.is_some()).take(count).collect()
+}
+
+/// All that have a graph: the models, random programs and the crowd.
+pub fn with_graph() -> &'static [Reported] {
+    static ALL: OnceLock<Vec<Reported>> = OnceLock::new();
+    ALL.get_or_init(|| {
+        let models = models().into_iter().filter(|model| model.execution.is_some());
+        models.chain(random(200)).chain([crowd()]).collect()
+    })
+}
+
+/// The model of this name.
+pub fn named(name: &str) -> &'static Reported {
+    with_graph().iter().find(|model| model.name == name).unwrap_or_else(|| panic!("no {name}"))
 }

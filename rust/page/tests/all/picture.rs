@@ -1,0 +1,99 @@
+//! What the picture says: its boxes, their texts and the headings.
+
+use std::collections::HashSet;
+
+use answer::Kind;
+use explain::Event;
+
+use crate::drawing::{page, Drawing};
+use crate::reported::{named, with_graph, Reported};
+
+#[test]
+fn every_event_has_its_box_with_its_text() {
+    for reported in with_graph() {
+        let Reported { name, source, execution, .. } = reported;
+        let execution = execution.as_ref().unwrap();
+        let drawing = Drawing::of(reported);
+        assert_eq!(drawing.boxes.len(), execution.events.len(), "{name}");
+        for (place, (event, drawn)) in execution.events.iter().zip(&drawing.boxes).enumerate() {
+            assert_eq!(drawn.id, format!("event-{place}"), "{name}");
+            let location = &source.locations[event.location];
+            let access = match event {
+                Event { kind: Kind::Read, read: Some(read), .. } => format!("R {location} = {read}"),
+                Event { kind: Kind::Write, written: Some(written), .. } => {
+                    format!("W {location} = {written}")
+                }
+                Event { read: Some(read), written: Some(written), .. } => {
+                    format!("M {location}: {read} → {written}")
+                }
+                _ => panic!("{event:?}"),
+            };
+            assert_eq!(drawn.access, access, "{name}");
+            assert!(drawn.title.contains(&access), "{name}: {}", drawn.title);
+        }
+    }
+}
+
+#[test]
+fn a_box_says_where_its_event_comes_from() {
+    let sb = named("sb.order");
+    let found = Drawing::of(sb).boxes;
+    let found: Vec<_> = found.iter().map(|it| (it.origin.as_str(), it.title.as_str())).collect();
+    assert_eq!(
+        found,
+        [
+            ("starting write", "Starting write W x = 0"),
+            ("starting write", "Starting write W y = 0"),
+            ("step 1, line 7", "Step 1 of thread 1, line 7 (x := 1): W x = 1"),
+            ("step 2, line 8", "Step 2 of thread 1, line 8 (r0 := y): R y = 0"),
+            ("step 3, line 10", "Step 3 of thread 2, line 10 (y := 1): W y = 1"),
+            (
+                "stale, line 11",
+                "Stale access of thread 2, line 11 (r0 := x): R x = 0. It goes by an older write than W x = 1 (step \
+                 1, thread 1), the newest.",
+            ),
+        ]
+    );
+}
+
+#[test]
+fn steps_count_local_lines_too_as_the_table_does() {
+    let long = named("long-run.order");
+    let boxes = Drawing::of(long).boxes;
+    assert_eq!([&boxes[2].origin, &boxes[3].origin], ["step 47, line 13", "step 97, line 13"]);
+    assert_eq!(page(long).named("tbody")[0].elements().count(), 706);
+}
+
+#[test]
+fn the_stale_access_alone_is_dashed_and_the_starting_writes_are_round() {
+    for reported in with_graph() {
+        let drawing = Drawing::of(reported);
+        let classes: Vec<&str> = drawing.boxes.iter().map(|it| it.class.as_str()).collect();
+        let starts = reported.source.locations.len();
+        let mut expected = vec!["event"; classes.len()];
+        expected[..starts].fill("event start");
+        expected[classes.len() - 1] = "event stale";
+        assert_eq!(classes, expected, "{}", reported.name);
+    }
+    let style = page(named("crowd.order")).named("style")[0].text();
+    let dashed = |line: &&str| line.contains("stroke-dasharray: 7 4");
+    assert_eq!(style.lines().filter(dashed).count(), 1);
+    assert!(style.lines().find(dashed).unwrap().starts_with(".event.stale rect {"));
+}
+
+#[test]
+fn every_thread_has_its_heading() {
+    for reported in with_graph() {
+        let threads = reported.source.program.threads.len();
+        let expected: HashSet<String> = (1..=threads).map(|thread| format!("thread {thread}")).collect();
+        let found: HashSet<String> = Drawing::of(reported).headings.into_iter().collect();
+        assert_eq!(found, expected, "{}", reported.name);
+    }
+}
+
+#[test]
+fn the_crowd_is_one() {
+    let crowd = named("crowd.order");
+    let events = &crowd.execution.as_ref().unwrap().events;
+    assert_eq!((crowd.source.program.threads.len(), events.len()), (8, 61));
+}
