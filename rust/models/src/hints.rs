@@ -79,10 +79,7 @@ fn access(before: &[Piece], rest: &[Piece], scope: &Scope) -> Option<String> {
         ([.., Word(op @ ("CAS" | "BCAS")), Sign("("), Word(x), Sign(","), a], [Sign(","), b, ..]) => {
             Some(format!("write '{op}({x}, {} -> {})'", a.text()?, b.text()?))
         }
-        ([], [Word(op @ ("CAS" | "FADD")), ..]) => {
-            Some(format!("a register gets the value found: 'r0 := {op}(..)'"))
-        }
-        ([x, Sign(":=")], [Word(op @ ("CAS" | "FADD")), ..]) if is_location(x) => {
+        ([] | [_, Sign(":=")], [Word(op @ ("CAS" | "FADD")), ..]) => {
             Some(format!("a register gets the value found: 'r0 := {op}(..)'"))
         }
         ([_, Sign(":=")], [Word(op @ ("BCAS" | "wait")), ..]) => Some(format!("'{op}' stands without ':='")),
@@ -90,7 +87,7 @@ fn access(before: &[Piece], rest: &[Piece], scope: &Scope) -> Option<String> {
             Some(format!("write 'r0 := FADD({x}, {})', or read '{x}' into a register first", a.text()?))
         }
         ([.., last], [y, ..]) if comes_operand(last) && is_location(y) => {
-            Some(format!("a line makes one access: read {y} into a register first"))
+            Some(format!("read {y} into a register first, in a line of its own"))
         }
         ([Word(reg), Sign(":="), x], [Sign("+" | "=" | "<") | Stray('-'), ..]) if is_location(x) => {
             Some(format!("a read stands alone: write '{reg} := {}', and go on with {reg}", x.text()?))
@@ -109,7 +106,7 @@ fn value(before: &[Piece], rest: &[Piece], scope: &Scope) -> Option<String> {
         ([Word("registers"), ..], _) => None,
         ([.., last], [Number(digits), ..]) if comes_operand(last) => match digits.parse::<u8>() {
             Ok(value) if value <= most => {
-                Some(format!("'values {}' or more has the value {value}", value + 1))
+                Some(format!("the value {value} takes 'values {}' or more", value + 1))
             }
             _ => Some(format!("the largest value is {most}, with 'values {}'", VALUES.end())),
         },

@@ -78,7 +78,7 @@ fn accesses_of_other_forms() {
 
 #[test]
 fn a_line_makes_one_access() {
-    let first = "a line makes one access: read 'flag' into a register first";
+    let first = "read 'flag' into a register first, in a line of its own";
     lines(first, &["x := flag", "if flag goto again", "wait(x = flag)", "r0 := CAS(x, flag -> 1)"]);
     lines(first, &["r0 := 1 + flag", "r0 := FADD(x, flag)", "x := flag + 1"]);
     lines("write 'r0 := FADD(x, 1)', or read 'x' into a register first", &["x := x + 1"]);
@@ -92,13 +92,13 @@ fn a_line_makes_one_access() {
 
 #[test]
 fn values_that_are_too_large() {
-    lines("'values 4' or more has the value 3", &["x := 3", "r0 := 3", "r0 := r0 + 3", "wait(x = 3)"]);
-    lines("'values 16' or more has the value 15", &["r0 := CAS(x, 15 -> 1)", "if 15 goto again"]);
+    lines("the value 3 takes 'values 4' or more", &["x := 3", "r0 := 3", "r0 := r0 + 3", "wait(x = 3)"]);
+    lines("the value 15 takes 'values 16' or more", &["r0 := CAS(x, 15 -> 1)", "if 15 goto again"]);
     lines(
         "the largest value is 15, with 'values 16'",
         &["x := 16", "x := 255", "x := 256", "x := 99999999999"],
     );
-    headers("'values 4' or more has the value 3", &["values 3\nconstants a = 3\n"]);
+    headers("the value 3 takes 'values 4' or more", &["values 3\nconstants a = 3\n"]);
     lines("sums wrap: with 'values 3', '+ 2' takes 1 away", &["r0 := r0 - 1", "r0 := full - 1"]);
     lines("sums wrap: with 'values 3', '+ 1' takes 2 away", &["r0 := r0 -2"]);
 }

@@ -1,6 +1,8 @@
 //! What the assembler says of a model with a mistake: the place, what was expected and what was found.
 #![forbid(unsafe_code)]
 
+use std::time::{Duration, Instant};
+
 use models::{assemble, Mistake, LONGEST};
 
 /// The message, with line and column in front and without a hint: `hints.rs` is about these.
@@ -212,12 +214,14 @@ fn a_text_has_at_most_1_mib() {
     expect(&text(LONGEST + 1), "1:1: expected a text of at most 1 MiB, found one of 1048577 bytes");
 }
 
-/// Names are found without going through all of them, so that the largest text takes no longer than a moment.
+/// Names are found without going through all of them, which would take much longer than this.
 #[test]
 fn a_text_of_nothing_but_labels_is_read_at_once() {
+    let start = Instant::now();
     let labels: String = (0..120_000).map(|number| format!("L{number}:")).collect();
     assert!(labels.len() > LONGEST / 2);
     assert!(assemble(format!("values 2\nlocations x\nthread\n{labels}\n goto L119999").as_bytes()).is_ok());
     let text = format!("values 2\nlocations x\nthread\n{labels}\n goto M119999");
     assert!(message(&text).ends_with("L11, ..), found 'M119999'"));
+    assert!(start.elapsed() < Duration::from_secs(10));
 }

@@ -41,7 +41,7 @@ fn every_model_gets_its_verdict_and_readme_says_so() {
         assert_eq!((model.1, model.2), (expected, count), "{name}");
         rows += 1;
     }
-    assert_eq!(rows, 34);
+    assert_eq!(rows, 35);
 }
 
 #[test]
