@@ -6,6 +6,8 @@ use std::fs::File;
 use std::io::{self, ErrorKind, Read, Write};
 use std::process::{exit, ExitCode};
 
+use program::limits::LONGEST_INPUT;
+
 /// The status of a failed read or write, or of an input with a mistake.
 pub const FAILED: u8 = 1;
 
@@ -55,10 +57,8 @@ pub fn name_of(file: &str) -> &str {
     }
 }
 
-/// No model and no program is longer, in bytes.
-const LONGEST: usize = 1 << 20;
-
-/// What the file holds, or standard input for `-`; or why that can't be told. A longer input is not read to its end.
+/// What the file holds, or standard input for `-`; or why that can't be told. An input that is too long is not read to
+/// its end.
 pub fn read(file: &str) -> Result<Vec<u8>, String> {
     let bytes = match file {
         "-" => up_to_longest(io::stdin().lock()),
@@ -69,8 +69,8 @@ pub fn read(file: &str) -> Result<Vec<u8>, String> {
 
 fn up_to_longest(from: impl Read) -> io::Result<Vec<u8>> {
     let mut bytes = Vec::new();
-    from.take(LONGEST as u64 + 1).read_to_end(&mut bytes)?;
-    if bytes.len() > LONGEST {
+    from.take(LONGEST_INPUT as u64 + 1).read_to_end(&mut bytes)?;
+    if bytes.len() > LONGEST_INPUT {
         return Err(io::Error::other("longer than 1 MiB, which no model is"));
     }
     Ok(bytes)

@@ -2,7 +2,8 @@
 
 use std::fmt;
 
-use crate::bounded::LONGEST;
+use program::limits::LONGEST_INPUT;
+
 use crate::mistake::{Mistake, Place};
 
 /// A piece of a text.
@@ -52,7 +53,7 @@ const BYTE_ORDER_MARK: &[u8] = "\u{feff}".as_bytes();
 
 /// The bytes as text. More of them than a model has are not looked at.
 pub fn text_of(bytes: &[u8]) -> Result<&str, Mistake> {
-    if bytes.len() > LONGEST {
+    if bytes.len() > LONGEST_INPUT {
         return Err(Mistake {
             place: START,
             expected: "a text of at most 1 MiB".into(),

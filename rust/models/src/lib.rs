@@ -4,7 +4,6 @@
 //! Only `disassemble` uses the reader of `program`; what `assemble` writes is tested against that reader.
 #![forbid(unsafe_code)]
 
-mod bounded;
 pub mod collection;
 mod cursor;
 mod disassemble;
@@ -17,7 +16,6 @@ mod nearest;
 mod parser;
 mod source;
 
-pub use bounded::{read_bounded, LONGEST};
 pub use disassemble::disassemble;
 pub use mistake::{Mistake, Place};
 pub use source::{Source, Statement};

@@ -1,11 +1,11 @@
 //! The command `order_asm`: a model to program bytes, and back.
 #![forbid(unsafe_code)]
 
-use std::fs::{self, File};
-use std::io::{self, ErrorKind, Write};
+use std::fs;
 use std::process::ExitCode;
 
-use models::{assemble, disassemble, read_bounded};
+use command::{asked, name_of, read, tell, write_out, Unwritten, FAILED, USAGE};
+use models::{assemble, disassemble};
 
 const HELP: &str = "\
 order_asm: the text form of a program to its bytes
@@ -54,50 +54,27 @@ struct Task {
     output: Option<String>,
 }
 
-/// Why the command ends without success: what it says, if anything, and its status.
-struct Failure {
-    message: Option<String>,
-    status: u8,
-}
-
 /// `-` is standard input.
 const STANDARD_INPUT: &str = "-";
 
 fn main() -> ExitCode {
-    match arguments().and_then(act) {
-        Ok(()) => ExitCode::SUCCESS,
-        Err(Failure { message, status }) => {
-            message.iter().for_each(|message| eprintln!("{message}"));
-            ExitCode::from(status)
-        }
+    match asked("order_asm", HELP.trim_end()) {
+        Ok(arguments) => act(arguments),
+        Err(status) => status,
     }
 }
 
-/// The command line, without the name of the command.
-fn arguments() -> Result<Vec<String>, Failure> {
-    let arguments = std::env::args_os().skip(1).map(|argument| argument.into_string());
-    arguments.collect::<Result<_, _>>().map_err(|argument| Failure {
-        message: Some(format!("order_asm: {} is not valid UTF-8", argument.to_string_lossy())),
-        status: 2,
-    })
-}
-
-fn act(arguments: Vec<String>) -> Result<(), Failure> {
-    let has = |name| arguments.iter().any(|argument| argument == name);
-    if has("--help") || has("-h") {
-        return write_all(None, HELP.as_bytes());
-    }
-    if has("--version") {
-        return write_all(None, concat!("order_asm ", env!("CARGO_PKG_VERSION"), "\n").as_bytes());
-    }
-    let usage = |message| format!("order_asm: {message}; see order_asm --help");
-    let task = task(arguments).map_err(|message| Failure { message: Some(usage(message)), status: 2 })?;
-    write_all(task.output.as_deref(), &translated(&task).map_err(failed)?)
-}
-
-/// A failure that is not the command line's.
-fn failed(message: String) -> Failure {
-    Failure { message: Some(message), status: 1 }
+fn act(arguments: Vec<String>) -> ExitCode {
+    let (message, status) = match task(arguments) {
+        Err(message) => (Some(format!("order_asm: {message}; see order_asm --help")), USAGE),
+        Ok(task) => match translated(&task).map(|output| written(&task, &output)) {
+            Ok(Ok(())) => return ExitCode::SUCCESS,
+            Ok(Err(Unwritten::ReaderGone)) => (None, FAILED),
+            Ok(Err(Unwritten::Failed(message))) | Err(message) => (Some(message), FAILED),
+        },
+    };
+    message.iter().for_each(tell);
+    ExitCode::from(status)
 }
 
 fn task(arguments: Vec<String>) -> Result<Task, String> {
@@ -124,8 +101,8 @@ fn task(arguments: Vec<String>) -> Result<Task, String> {
 
 /// The output for all of the input: it is written only after this, so that a mistake leaves none.
 fn translated(task: &Task) -> Result<Vec<u8>, String> {
-    let name = if task.input == STANDARD_INPUT { "standard input" } else { &task.input };
-    let input = read_all(&task.input).map_err(|error| format!("{name}: {error}"))?;
+    let name = name_of(&task.input);
+    let input = read(&task.input)?;
     if task.disassemble {
         let refused = |number| format!("{name}: not a program: check {number} of document 01 fails");
         Ok(disassemble(&input).map_err(refused)?.into_bytes())
@@ -134,23 +111,10 @@ fn translated(task: &Task) -> Result<Vec<u8>, String> {
     }
 }
 
-fn read_all(name: &str) -> io::Result<Vec<u8>> {
-    if name == STANDARD_INPUT {
-        read_bounded(io::stdin())
-    } else {
-        read_bounded(File::open(name)?)
+/// Writes the file, or standard output where none is named.
+fn written(task: &Task, output: &[u8]) -> Result<(), Unwritten> {
+    match &task.output {
+        Some(file) => fs::write(file, output).map_err(|error| Unwritten::Failed(format!("{file}: {error}"))),
+        None => write_out(output),
     }
-}
-
-/// Writes the file, or standard output where none is named. A reader of it who goes away has what he wanted, and nothing
-/// is said.
-fn write_all(file: Option<&str>, output: &[u8]) -> Result<(), Failure> {
-    let written = match file {
-        Some(file) => fs::write(file, output),
-        None => io::stdout().write_all(output).and_then(|()| io::stdout().flush()),
-    };
-    written.map_err(|error| match file {
-        None if error.kind() == ErrorKind::BrokenPipe => Failure { message: None, status: 1 },
-        _ => failed(format!("{}: {error}", file.unwrap_or("standard output"))),
-    })
 }

@@ -6,7 +6,7 @@ use std::io::Write;
 use std::path::{Path, PathBuf};
 use std::process::{Command, Output, Stdio};
 
-use models::LONGEST;
+use program::limits::LONGEST_INPUT;
 
 const SB: &str = "values 2\nlocations x y\nthread\n  x := 1\n  r0 := y\nthread\n  y := 1\n  r0 := x\n";
 const SB_BYTES: &[u8] = b"PR\x02\x02\x02TH\x02IN\x05\x00\x00\x01\x00IN\x06\x00\x01\x00\x00\
@@ -123,7 +123,7 @@ fn an_input_of_more_than_1_mib_is_refused() {
     bad(&run(test, &["--dis", "zeros"], b""), 1, &message("zeros"));
     bad(&run(test, &[], &zeros), 1, &message("standard input"));
     // One byte decides.
-    let model = [SB.as_bytes(), &vec![b' '; LONGEST - SB.len()]].concat();
+    let model = [SB.as_bytes(), &vec![b' '; LONGEST_INPUT - SB.len()]].concat();
     good(&run(test, &[], &model), SB_BYTES);
     bad(&run(test, &[], &[&model[..], b" "].concat()), 1, &message("standard input"));
 }

@@ -3,7 +3,8 @@
 
 use std::time::{Duration, Instant};
 
-use models::{assemble, Mistake, LONGEST};
+use models::{assemble, Mistake};
+use program::limits::LONGEST_INPUT;
 
 /// The message, with line and column in front and without a hint: `hints.rs` is about these.
 fn message(text: &str) -> String {
@@ -210,8 +211,8 @@ fn a_byte_order_mark_in_front_is_no_part_of_the_text() {
 fn a_text_has_at_most_1_mib() {
     let model = "values 2\nlocations x\nthread\n#";
     let text = |length: usize| format!("{model}{}", " ".repeat(length - model.len()));
-    assert!(assemble(text(LONGEST).as_bytes()).is_ok());
-    expect(&text(LONGEST + 1), "1:1: expected a text of at most 1 MiB, found one of 1048577 bytes");
+    assert!(assemble(text(LONGEST_INPUT).as_bytes()).is_ok());
+    expect(&text(LONGEST_INPUT + 1), "1:1: expected a text of at most 1 MiB, found one of 1048577 bytes");
 }
 
 /// Names are found without going through all of them, which would take much longer than this.
@@ -219,7 +220,7 @@ fn a_text_has_at_most_1_mib() {
 fn a_text_of_nothing_but_labels_is_read_at_once() {
     let start = Instant::now();
     let labels: String = (0..120_000).map(|number| format!("L{number}:")).collect();
-    assert!(labels.len() > LONGEST / 2);
+    assert!(labels.len() > LONGEST_INPUT / 2);
     assert!(assemble(format!("values 2\nlocations x\nthread\n{labels}\n goto L119999").as_bytes()).is_ok());
     let text = format!("values 2\nlocations x\nthread\n{labels}\n goto M119999");
     assert!(message(&text).ends_with("L11, ..), found 'M119999'"));

@@ -18,10 +18,10 @@ pub struct Input {
     pub is_text: bool,
 }
 
-/// Reads the file, or standard input for `-`; or says what is wrong with it.
+/// Reads the file, or standard input for `-`; or says what is wrong with it, a mistake in a model as compilers do.
 pub fn input(file: &str) -> Result<Input, String> {
     let name = name_of(file);
-    let bytes = read(file)?;
+    let bytes = read(file).map_err(|message| format!("order: {message}"))?;
     if is_program(&bytes) {
         return Ok(program(name, bytes));
     }
@@ -29,7 +29,7 @@ pub fn input(file: &str) -> Result<Input, String> {
     Ok(Input {
         name: name.into(),
         bytes: encode(&source.program),
-        text: String::from_utf8_lossy(&bytes).into_owned(),
+        text: String::from_utf8_lossy(&bytes).trim_start_matches('\u{feff}').into(),
         source: Some(source),
         is_text: true,
     })

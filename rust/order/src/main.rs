@@ -38,14 +38,16 @@ fn main() -> ExitCode {
 fn run(task: &Task) -> Result<Status, Unwritten> {
     let mut status = Status::Good;
     for file in &task.files {
-        let shown = input::input(file).and_then(|input| show::shown(&input, task));
+        let shown = input::input(file)
+            .and_then(|input| show::shown(&input, task).map_err(|message| format!("order: {message}")));
         status = status.min(match shown {
             Ok((text, status)) => written(&text).map(|()| status)?,
             Err(message) => {
                 if task.show == Show::Json {
                     written(&format!("{}\n", data::error(name_of(file), &message)))?;
                 }
-                failed(Unwritten::Failed(message))
+                tell(message);
+                Status::Failed
             }
         });
     }

@@ -36,12 +36,9 @@ fn what_is_no_program_gets_its_number_and_words() {
 #[test]
 fn a_mistake_has_its_place_and_no_report() {
     let said = ends(&run(&["-"], b"values 2\nlocations x\nthread\n  y := 1\n"), 1, "");
-    assert!(said.starts_with("order: standard input:4:3: expected a line that starts with"), "{said}");
+    assert!(said.starts_with("standard input:4:3: expected a line that starts with"), "{said}");
     let said = ends(&run(&["-"], b""), 1, "");
-    assert!(
-        said.starts_with("order: standard input:1:1: expected 'values', found the end of the file"),
-        "{said}"
-    );
+    assert!(said.starts_with("standard input:1:1: expected 'values', found the end of the file"), "{said}");
     for file in ["missing.order", "."] {
         let said = ends(&run(&[file], b""), 1, "");
         assert!(said.starts_with(&format!("order: {file}: ")), "{said}");
@@ -78,6 +75,8 @@ fn an_expectation_is_met_or_not() {
     ends(&run(&["--expect", "--table", "100", "mp.order"], b""), 1, "mp.order: FU 1, but RB is expected\n");
     let said = ends(&run(&["--expect", "-"], b"values 2\nlocations x\nthread\n"), 1, "");
     assert!(said.contains("standard input: expected one line '# expect RB' or '# expect NR'"), "{said}");
+    let marked = [b"\xef\xbb\xbf", &fs::read(models().join("sb.order")).unwrap()[..]].concat();
+    ends_quietly(&run(&["--expect", "-"], &marked), 0, "standard input: NR 7 3 2 R 0 0, as expected\n");
     let said = ends(&run(&["--expect", "-"], b"PR"), 1, "");
     assert!(said.contains("standard input: "), "{said}");
 }

@@ -99,7 +99,7 @@ fn each_file_is_a_line_of_data() {
         "{text}"
     );
     assert!(
-        lines[1].starts_with(&(start("missing.order", "null") + "\"error\":\"missing.order: ")),
+        lines[1].starts_with(&(start("missing.order", "null") + "\"error\":\"order: missing.order: ")),
         "{text}"
     );
     assert!(
