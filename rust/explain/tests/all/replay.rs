@@ -5,7 +5,7 @@ use std::time::{Duration, Instant};
 use answer::{Access, Kind, Report, Step};
 use explain::Execution;
 
-use crate::reported::{model, Reported};
+use crate::reported::{model, of_source, source, Reported};
 
 const KINDS: [Kind; 3] = [Kind::Read, Kind::Write, Kind::Update];
 
@@ -110,4 +110,15 @@ fn seven_hundred_steps_are_taken_in_less_than_a_second() {
     let execution = Execution::of(&program, &report, &steps).unwrap();
     assert!(execution.cycle().is_some());
     assert!(start.elapsed() < Duration::from_secs(1), "{:?}", start.elapsed());
+}
+
+/// The starting write of x and the first write to it have the same value, and both may be read.
+#[test]
+fn the_first_write_of_the_value_is_picked() {
+    let text = "values 2\nlocations x y\nthread\nx := 0\nx := 1\nr0 := y\nthread\ny := 1\nr0 := x\n";
+    let Reported { program, report, steps, .. } = of_source("zeros", source(text)).unwrap();
+    let execution = Execution::of(&program, &report, &steps).unwrap();
+    assert_eq!(execution.orders[0], [0, 2, 3]);
+    assert_eq!((execution.picked, execution.newest), (0, 3));
+    assert_eq!(execution.events[execution.stale()].source, Some(0));
 }
