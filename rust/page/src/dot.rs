@@ -1,6 +1,6 @@
 //! The execution graph for graphviz.
 
-use explain::Edge;
+use explain::{Edge, Event};
 use models::Source;
 
 use crate::drawn::{drawn, Drawn};
@@ -21,40 +21,61 @@ pub fn dot(source: &Source, graph: &Graph) -> String {
     )
 }
 
-/// The starting writes, on top.
+/// The starting writes, side by side on top.
 fn starts(words: &Words) -> String {
     let count = words.execution.orders.len();
     let nodes: String = (0..count).map(|event| node(words, event)).collect();
-    format!("  {{\n    rank=min;\n{nodes}  }}\n")
+    let order: String =
+        (1..count).map(|event| unseen(&format!("e{}", event - 1), &format!("e{event}"))).collect();
+    format!("  {{\n    rank=min;\n{nodes}{order}  }}\n")
 }
 
+/// A cluster for each thread, with its heading in it; the headings stand side by side, and so do the clusters.
 fn threads(words: &Words) -> String {
     let events = &words.execution.events;
+    let count = words.source.statements.len();
     let cluster = |thread: usize| {
         let nodes = (0..events.len()).filter(|&event| events[event].thread == Some(thread));
         let nodes: String = nodes.map(|event| node(words, event)).collect();
         let number = thread + 1;
-        format!("  subgraph cluster_{number} {{\n    label=\"thread {number}\";\n    color=\"gray\";\n{nodes}  }}\n")
+        format!(
+            "  subgraph cluster_{number} {{\n    color=\"gray\";\n    t{number} [label=\"thread {number}\", \
+             shape=plaintext, group={number}];\n{nodes}  }}\n"
+        )
     };
-    (0..words.source.statements.len()).map(cluster).collect()
+    let clusters: String = (0..count).map(cluster).collect();
+    let order: String =
+        (1..count).map(|thread| unseen(&format!("t{thread}"), &format!("t{}", thread + 1))).collect();
+    format!("{clusters}  {{\n    rank=same;\n    t1;\n{order}  }}\n")
 }
 
 fn node(words: &Words, event: usize) -> String {
-    let style = match words.execution.events[event].step {
+    let Event { step, thread, .. } = words.execution.events[event];
+    let style = match step {
         None => "rounded",
         Some(_) if event == words.execution.stale() => "dashed",
         Some(_) => "solid",
     };
     let [access, origin] = [words.access(event), words.origin(event)].map(|text| quoted(&text));
-    format!("    e{event} [label=\"{access}\\n{origin}\", style={style}];\n")
+    // The nodes of a group stand in a line.
+    let group = thread.map_or_else(String::new, |thread| format!(", group={}", thread + 1));
+    format!("    e{event} [label=\"{access}\\n{origin}\", style={style}{group}];\n")
 }
 
-/// Edges that are not seen: each event stands below the one before it, and all below the starting writes.
+/// The starting writes stand above the headings, these above the first event, and each event above the next.
 fn rows(words: &Words) -> String {
     let first = words.execution.orders.len();
-    let starts = (0..first).map(|start| (start, first));
-    let steps = (first + 1..words.execution.events.len()).map(|event| (event - 1, event));
-    starts.chain(steps).map(|(from, to)| format!("  e{from} -> e{to} [style=invis];\n")).collect()
+    let count = words.source.statements.len();
+    let starts = (0..first).map(|start| unseen(&format!("e{start}"), "t1"));
+    let headings = (1..=count).map(|thread| unseen(&format!("t{thread}"), &format!("e{first}")));
+    let steps = first + 1..words.execution.events.len();
+    let steps = steps.map(|event| unseen(&format!("e{}", event - 1), &format!("e{event}")));
+    starts.chain(headings).chain(steps).collect()
+}
+
+/// An edge that only puts a node after another.
+fn unseen(from: &str, to: &str) -> String {
+    format!("    {from} -> {to} [style=invis];\n")
 }
 
 fn edge(drawn: &Drawn) -> String {
@@ -63,7 +84,7 @@ fn edge(drawn: &Drawn) -> String {
     let ([colour, _], style, head, short) = (look.colours, look.style, look.head, look.short);
     let width = if drawn.in_cycle { 3 } else { 1 };
     format!(
-        "  e{from} -> e{to} [label=\"{short}\", color=\"{colour}\", fontcolor=\"{colour}\", style={style}, \
+        "    e{from} -> e{to} [label=\"{short}\", color=\"{colour}\", fontcolor=\"{colour}\", style={style}, \
          arrowhead={head}, penwidth={width}, constraint=false];\n"
     )
 }

@@ -5,16 +5,21 @@ const RADIUS: i32 = 7;
 
 type Point = (i32, i32);
 
-/// The data of a line along the points, with round turns; it ends in the head of the edge.
-pub fn path(points: &[Point], in_cycle: bool) -> String {
-    let mut points = points.to_vec();
-    if let [.., before, last] = &mut points[..] {
-        *last = toward(*last, *before, head_length(in_cycle) - 1);
-    }
+/// The data of a line along the points, with round turns.
+pub fn path(points: &[Point]) -> String {
     let mut data = points.first().map_or_else(String::new, |(x, y)| format!("M{x} {y}"));
     data.extend(points.windows(3).map(|part| turn(part[0], part[1], part[2])));
     data.extend(points.last().map(|(x, y)| format!("L{x} {y}")));
     data
+}
+
+/// The same points, but the last one within the edge's head.
+pub fn without_head(points: &[Point], in_cycle: bool) -> Vec<Point> {
+    let mut points = points.to_vec();
+    if let [.., before, last] = &mut points[..] {
+        *last = toward(*last, *before, head_length(in_cycle) - 1);
+    }
+    points
 }
 
 /// The data of the edge's head.

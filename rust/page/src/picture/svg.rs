@@ -1,5 +1,7 @@
 //! The picture's text.
 
+use std::cmp::Reverse;
+
 use crate::drawn::Drawn;
 use crate::escape::escaped;
 use crate::relations::look;
@@ -9,9 +11,9 @@ use models::Source;
 
 use super::boxes::{boxes, Rect, GAP, STARTS_END};
 use super::frame::Frame;
-use super::path::{head, path};
+use super::path::{head, path, without_head};
 use super::ports::Ports;
-use super::trunks::trunks;
+use super::trunks::{root_and_leaf, trunks};
 use super::wires::{Wire, Wiring};
 use super::Drawing;
 
@@ -99,12 +101,13 @@ fn event_box(words: &Words, event: usize, rect: &Rect) -> String {
     )
 }
 
-/// The edges, those of the cycle last and so on top.
+/// The edges: of those that share a line the shorter ones later, so that no line is drawn over a name, and those of the
+/// cycle last.
 fn edges(drawing: &Drawing, wires: &[Wire]) -> String {
-    let all = || drawing.edges.iter().zip(wires);
-    let shown = |(drawn, wire)| edge(&drawing.words, drawn, wire);
-    let (others, cycle) = (all().filter(|it| !it.0.in_cycle), all().filter(|it| it.0.in_cycle));
-    others.chain(cycle).map(shown).collect()
+    let mut edges: Vec<(&Drawn, &Wire)> = drawing.edges.iter().zip(wires).collect();
+    let rows = |drawn: &Drawn| drawing.row(drawn.edge.from).abs_diff(drawing.row(drawn.edge.to));
+    edges.sort_by_key(|(drawn, _)| (drawn.in_cycle, Reverse(rows(drawn))));
+    edges.into_iter().map(|(drawn, wire)| edge(&drawing.words, drawn, wire)).collect()
 }
 
 fn edge(words: &Words, drawn: &Drawn, wire: &Wire) -> String {
@@ -115,11 +118,16 @@ fn edge(words: &Words, drawn: &Drawn, wire: &Wire) -> String {
     let title = escaped(&words.of_edge(edge, in_cycle));
     let (x, y) = wire.name;
     let (from, to) = (edge.from, edge.to);
+    let mut way = without_head(&wire.points, in_cycle);
+    if root_and_leaf(drawn).0 == to {
+        // Where edges share a line, their dashes fall on each other.
+        way.reverse();
+    }
     format!(
         "<g class=\"edge {short}{cycle}\" data-from=\"event-{from}\" data-to=\"event-{to}\" role=\"img\"><title>{title}\
          </title><path class=\"way\" d=\"{}\" /><path class=\"head\" d=\"{}\" /><text class=\"name{beside}\" x=\"{x}\" \
          y=\"{}\">{short}</text></g>\n",
-        path(&wire.points, in_cycle),
+        path(&way),
         head(&wire.points, in_cycle),
         y + 4,
     )
