@@ -1,11 +1,12 @@
-//! The lines of edges in SVG.
+//! The lines of edges and their heads.
 
 /// The radius of a line's turns.
 const RADIUS: i32 = 7;
 
-type Point = (i32, i32);
+/// A point of the picture, from the left and from the top.
+pub type Point = (i32, i32);
 
-/// The data of a line along the points, with round turns.
+/// The data of a line along the points in SVG, with round turns.
 pub fn path(points: &[Point]) -> String {
     let mut data = points.first().map_or_else(String::new, |(x, y)| format!("M{x} {y}"));
     data.extend(points.windows(3).map(|part| turn(part[0], part[1], part[2])));
@@ -22,7 +23,7 @@ pub fn without_head(points: &[Point], in_cycle: bool) -> Vec<Point> {
     points
 }
 
-/// The data of the edge's head.
+/// The data of the edge's head in SVG.
 pub fn head(points: &[Point], in_cycle: bool) -> String {
     let [.., before, tip] = *points else { return String::new() };
     let length = head_length(in_cycle);

@@ -111,8 +111,6 @@ fn drawn_edge(element: &Element) -> DrawnEdge {
     }
     let name = element.with_class("name")[0];
     let (x, y) = (name.number("x"), name.number("y"));
-    // Two letters of 12 pixels, in the middle or from there on.
-    let left = if name.has_class("beside") { x } else { x - 8 };
     DrawnEdge {
         ends: ["data-from", "data-to"].map(|end| element.attribute(end).into()),
         relation: name.text(),
@@ -120,7 +118,8 @@ fn drawn_edge(element: &Element) -> DrawnEdge {
         title: element.named("title")[0].text(),
         line,
         head: points(element.with_class("head")[0].attribute("d")),
-        name: Area { x: [left, left + 16], y: [y - 10, y + 3] },
+        // Two letters of 12 pixels.
+        name: Area { x: [x - 8, x + 8], y: [y - 10, y + 3] },
     }
 }
 
