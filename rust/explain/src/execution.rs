@@ -53,4 +53,9 @@ impl Execution {
     pub fn stale(&self) -> usize {
         self.events.len() - 1
     }
+
+    /// The step that made an event; none for a starting write.
+    pub fn step_of(&self, event: usize) -> Option<&Taken> {
+        self.steps.get(self.events[event].step?)
+    }
 }

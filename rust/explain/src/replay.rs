@@ -2,7 +2,7 @@
 
 use answer::{Kind, Report, Step};
 use program::Program;
-use second::{Action, Graph, State};
+use second::{Action, Graph, State, Witness};
 
 use crate::execution::{Event, Execution, Taken};
 
@@ -11,33 +11,57 @@ impl Execution {
     ///
     /// Of several writes that the stale access may pick with the reported value it picks the first.
     pub fn of(program: &Program, report: &Report, steps: &[Step]) -> Option<Execution> {
-        let Report::NotRobust { thread, kind, location, value, .. } = *report else {
+        let (mut taken, state) = run(program, steps)?;
+        let witness = second::witness(program, &state)?;
+        if !is_named(report, steps.len(), &witness) {
             return None;
-        };
-        let mut state = State::start(program);
-        let mut taken = Vec::new();
-        for step in steps {
-            let thread = usize::from(step.thread).checked_sub(1).filter(|&it| it < program.threads.len())?;
-            taken.push(due(&state, thread, step.access.is_some()));
-            let (access, after) = state.sc_step(program, thread)?;
-            let shown = second::Step { thread: thread + 1, access };
-            state = (shown.bytes() == step.bytes()).then_some(after)?;
         }
-        let thread = thread.checked_sub(1).filter(|&it| it < program.threads.len())?;
-        let (newest, stale) = state.graph().order(location).split_last()?;
-        let may_pick = |&&w: &&usize| state.graph().written(w) == value;
-        let after = |w| Some((w, state.ra_step(program, thread, w)?));
-        let (picked, after) = stale.iter().filter(may_pick).find_map(|&w| after(w))?;
+        let thread = place_of(program, witness.thread)?;
+        let (&newest, stale) = state.graph().order(witness.location).split_last()?;
+        let has_value = |&&w: &&usize| state.graph().written(w) == witness.value;
+        let after = |&w: &usize| Some((w, state.ra_step(program, thread, w)?));
+        let (picked, after) = stale.iter().filter(has_value).find_map(after)?;
         taken.push(due(&state, thread, true));
         let events = events(after.graph(), &taken);
-        (events.last()?.kind == kind).then_some(Execution {
-            steps: taken,
-            events,
-            orders: (0..program.locations.into()).map(|place| after.graph().order(place).to_vec()).collect(),
-            picked,
-            newest: *newest,
-        })
+        let orders = (0..program.locations.into()).map(|it| after.graph().order(it).to_vec()).collect();
+        Some(Execution { steps: taken, events, orders, picked, newest })
     }
+}
+
+/// Whether the report is NR after so many steps and names the witness.
+fn is_named(report: &Report, taken: usize, witness: &Witness) -> bool {
+    let Report::NotRobust { steps, thread, kind, location, value, .. } = *report else {
+        return false;
+    };
+    let named = Witness { thread, kind: second_kind(kind), location, value };
+    steps == taken && named == *witness
+}
+
+fn second_kind(kind: Kind) -> second::Kind {
+    match kind {
+        Kind::Read => second::Kind::Read,
+        Kind::Write => second::Kind::Write,
+        Kind::Update => second::Kind::Update,
+    }
+}
+
+/// The steps as they are taken, and the state after them; nothing where one of them shows something else.
+fn run(program: &Program, steps: &[Step]) -> Option<(Vec<Taken>, State)> {
+    let mut state = State::start(program);
+    let mut taken = Vec::new();
+    for step in steps {
+        let thread = place_of(program, step.thread.into())?;
+        let (access, after) = state.sc_step(program, thread)?;
+        taken.push(due(&state, thread, access.is_some()));
+        let shown = second::Step { thread: thread + 1, access };
+        state = (shown.bytes() == step.bytes()).then_some(after)?;
+    }
+    Some((taken, state))
+}
+
+/// The place of a thread that is numbered from 1, if the program has it.
+fn place_of(program: &Program, thread: usize) -> Option<usize> {
+    thread.checked_sub(1).filter(|&place| place < program.threads.len())
 }
 
 /// The step that a thread takes next; an event that it adds is the next one of the graph.

@@ -87,7 +87,7 @@ impl Situation {
 impl History {
     /// The locations whose newest write is, or comes in SC order before, one of the events.
     fn seen(&self, events: &Events) -> Set {
-        let before = self.sc_order.before(events);
+        let before = self.sc_order().before(events);
         self.locations(|newest| events.contains(newest) || before.contains(newest))
     }
 
@@ -101,7 +101,7 @@ impl History {
     /// one of the events or happen before one; and of these writes those that are not directly followed by a
     /// read-modify-write.
     fn values(&self, events: &Events) -> ([Set; WIDTH], [Set; WIDTH]) {
-        let hidden = events.clone().or(&self.happens_before.before(events));
+        let hidden = events.clone().or(&self.happens_before().before(events));
         let (mut readable, mut writable) = ([0; WIDTH], [0; WIDTH]);
         for location in 0..self.graph.locations() {
             for (place, &write) in self.graph.order(location).iter().enumerate() {

@@ -29,9 +29,9 @@ fn witness_of(program: &Program, state: &State, thread: usize) -> Option<Witness
     let Next::Access(due) = state.next(program, thread)? else {
         return None;
     };
-    let History { graph, sc_order, events_of, .. } = &*state.history;
+    let History { graph, events_of, .. } = &*state.history;
     let location = due.location;
-    if !sc_order.before(&events_of[thread]).contains(graph.newest(location)) {
+    if !state.history.sc_order().before(&events_of[thread]).contains(graph.newest(location)) {
         return None;
     }
     let (_newest, stale) = graph.order(location).split_last()?;
@@ -64,7 +64,7 @@ impl History {
     /// writes and read-modify-writes, when w isn't directly followed by a read-modify-write."
     fn may_pick(&self, thread: usize, action: Action, later: &[usize]) -> bool {
         let own = &self.events_of[thread];
-        let before = self.happens_before.before(own);
+        let before = self.happens_before().before(own);
         let unseen = later.iter().all(|&write| !own.contains(write) && !before.contains(write));
         unseen && (action == Action::Read || !self.graph.update_follows(later))
     }

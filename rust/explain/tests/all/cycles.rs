@@ -9,7 +9,7 @@ const RELATIONS: [Relation; 4] =
     [Relation::ProgramOrder, Relation::ReadsFrom, Relation::ModificationOrder, Relation::FromRead];
 
 /// The graph of a report and the cycle in it.
-fn cycle_of(Reported { name, program, report, steps }: &Reported) -> (Execution, Vec<Edge>) {
+fn cycle_of(Reported { name, program, report, steps, .. }: &Reported) -> (Execution, Vec<Edge>) {
     let execution = Execution::of(program, report, steps).unwrap_or_else(|| panic!("{name} is not replayed"));
     let cycle = execution.cycle().unwrap_or_else(|| panic!("{name} has no cycle"));
     (execution, cycle)
@@ -40,25 +40,63 @@ fn a_thousand_random_programs_have_a_cycle() {
     programs.iter().for_each(has_a_cycle);
 }
 
-/// How many edges lead from the stale access back to it, by the relations that `holds` knows and no search of the crate.
-fn shortest(execution: &Execution) -> usize {
-    let all = 0..execution.events.len();
+/// The relations by how easy they are to read.
+const EASIEST_FIRST: [Relation; 4] =
+    [Relation::ReadsFrom, Relation::ProgramOrder, Relation::ModificationOrder, Relation::FromRead];
+
+/// How many edges lead from each event to the stale access, by what holds and not by the search; none where
+/// it is not reached. From the stale access itself it is 0.
+fn distances(execution: &Execution) -> Vec<Option<usize>> {
     let related = |from, to| RELATIONS.iter().any(|&relation| holds(execution, Edge { from, to, relation }));
+    let all = 0..execution.events.len();
+    let mut distances = vec![None; all.len()];
     let mut reached = vec![execution.stale()];
-    for length in 1.. {
-        reached = all.clone().filter(|&to| reached.iter().any(|&from| related(from, to))).collect();
-        if reached.contains(&execution.stale()) {
-            return length;
+    for distance in 0.. {
+        reached.iter().for_each(|&event| distances[event] = Some(distance));
+        let is_next =
+            |from: &usize| distances[*from].is_none() && reached.iter().any(|&to| related(*from, to));
+        let next: Vec<usize> = all.clone().filter(is_next).collect();
+        if next.is_empty() {
+            break;
+        }
+        reached = next;
+    }
+    distances
+}
+
+/// The edges from an event by how easy they are to read: to the nearest event, but to the newest write.
+fn easiest_first(execution: &Execution, from: usize) -> Vec<Edge> {
+    let edges = |relation| {
+        let place = |to: usize| execution.orders.concat().iter().position(|&write| write == to);
+        let mut found: Vec<usize> = (0..execution.events.len()).collect();
+        if matches!(relation, Relation::ModificationOrder | Relation::FromRead) {
+            found.sort_by_key(|&to| std::cmp::Reverse(place(to)));
+        }
+        found.into_iter().map(move |to| Edge { from, to, relation }).filter(|&edge| holds(execution, edge))
+    };
+    EASIEST_FIRST.into_iter().flat_map(edges).collect()
+}
+
+/// At each event the easiest edge by which a shortest way leads back.
+fn chosen(execution: &Execution) -> Vec<Edge> {
+    let distances = distances(execution);
+    let (mut cycle, mut event) = (Vec::new(), execution.stale());
+    loop {
+        let edges = easiest_first(execution, event);
+        let edge = edges.iter().min_by_key(|edge| distances[edge.to].unwrap_or(usize::MAX)).unwrap();
+        cycle.push(*edge);
+        event = edge.to;
+        if event == execution.stale() {
+            return cycle;
         }
     }
-    unreachable!("the stale access is on a cycle")
 }
 
 #[test]
-fn no_cycle_is_shorter() {
-    for reported in random_not_robust(300) {
-        let (execution, cycle) = cycle_of(&reported);
-        assert_eq!(cycle.len(), shortest(&execution), "{}: {cycle:?}", reported.name);
+fn no_cycle_is_shorter_and_none_as_short_is_easier_to_read() {
+    for reported in random_not_robust(1_000).iter().chain(&models_not_robust()) {
+        let (execution, cycle) = cycle_of(reported);
+        assert_eq!(cycle, chosen(&execution), "{}", reported.name);
     }
 }
 

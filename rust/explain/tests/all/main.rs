@@ -1,8 +1,15 @@
 //! All tests of this crate in one program. They explain the models and random programs, with the plain checker.
 #![forbid(unsafe_code)]
 
+mod changes;
 mod cycles;
+mod data;
+mod flaws;
+mod helps;
+mod reader;
+mod replay;
 mod reported;
+mod texts;
 
 /// A file that no `mod` names would not be compiled, and its tests be lost unseen.
 #[test]

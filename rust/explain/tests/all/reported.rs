@@ -1,42 +1,84 @@
 //! Reports to explain: those of the plain checker.
 
 use answer::{steps_in, Report, Step};
-use models::collection::{self, Verdict};
+use explain::{Checked, Explanation};
+use models::collection::{self, Model, Verdict};
+use models::Source;
 use program::{encode, Program};
 use random::{Numbers, Shape};
 
 /// A program that is not robust, and the report on it.
 pub struct Reported {
     pub name: String,
+    pub source: Source,
     pub program: Program,
     pub report: Report,
     pub steps: Vec<Step>,
 }
 
 /// The report on a program, with the steps, in a table of this length.
-pub fn report_on(program: &Program, table: usize) -> (Report, Vec<Step>) {
+fn report_on(program: &Program, table: usize) -> (Report, Vec<Step>) {
     let (mut table, mut trace) = (vec![0; table], vec![0; 20_000]);
     let report = plain::check(&encode(program), &mut table, &mut trace);
     let steps = if let Report::NotRobust { steps, .. } = report { steps } else { 0 };
     (report, steps_in(&trace[..steps * Step::BYTES]).unwrap())
 }
 
-/// The report on a program that is not robust, if it is one.
-fn reported(name: String, program: Program, table: usize) -> Option<Reported> {
-    let (report, steps) = report_on(&program, table);
+/// What the plain checker says of a program.
+pub fn check(program: &Program) -> Checked {
+    check_in(10_000_000, program)
+}
+
+/// The same, in a table of this length.
+pub fn check_in(table: usize, program: &Program) -> Checked {
+    match report_on(program, table) {
+        (Report::Robust { .. }, _) => Checked::Robust,
+        (report @ Report::NotRobust { .. }, steps) => Checked::NotRobust { report, steps },
+        _ => Checked::Undecided,
+    }
+}
+
+/// The explanation of a report, with the plain checker.
+pub fn explained(reported: &Reported) -> Explanation {
+    explained_by(reported, &mut check)
+}
+
+/// The explanation of a report, with this checker.
+pub fn explained_by(reported: &Reported, check: &mut dyn FnMut(&Program) -> Checked) -> Explanation {
+    let Reported { name, source, report, steps, .. } = reported;
+    Explanation::of(source, report, steps, check).unwrap_or_else(|why| panic!("{name}: {why}"))
+}
+
+/// The model of a text.
+pub fn source(text: &str) -> Source {
+    Source::of_text(text.as_bytes()).unwrap_or_else(|mistake| panic!("{mistake}"))
+}
+
+/// The report on a model, if it is not robust.
+pub fn of_source(name: &str, source: Source) -> Option<Reported> {
+    let program = source.program.clone();
+    // Most witnesses come soon.
+    let (report, steps) = report_on(&program, 1_000_000);
     let not_robust = matches!(report, Report::NotRobust { .. });
-    not_robust.then_some(Reported { name, program, report, steps })
+    not_robust.then(|| Reported { name: name.into(), source, program, report, steps })
 }
 
 /// Every model that is not robust.
 pub fn models_not_robust() -> Vec<Reported> {
     let models = collection::load(&collection::directory()).unwrap();
     let not_robust = models.into_iter().filter(|model| model.expected == Verdict::NotRobust);
-    let found = not_robust.map(|model| {
-        let program = program::read(&model.bytes).unwrap();
-        reported(model.name.clone(), program, 1_000_000).unwrap_or_else(|| panic!("{}", model.name))
-    });
-    found.collect()
+    not_robust.map(of_model).collect()
+}
+
+/// The model of this name, which is not robust.
+pub fn model(name: &str) -> Reported {
+    of_model(collection::named(name).unwrap())
+}
+
+fn of_model(model: Model) -> Reported {
+    let path = collection::directory().join(&model.name).with_extension("order");
+    let source = source(&std::fs::read_to_string(path).unwrap());
+    of_source(&model.name, source).unwrap_or_else(|| panic!("{} is robust", model.name))
 }
 
 /// So many random programs that are not robust.
@@ -45,8 +87,8 @@ pub fn random_not_robust(count: usize) -> Vec<Reported> {
     let shapes = [Shape::litmus(), Shape::winding(), Shape::racing(), Shape::looping(), Shape::wide()];
     let programs = (0..).map(|number| random::program(&mut numbers, &shapes[number % shapes.len()]));
     let found = programs.enumerate().filter_map(|(number, program)| {
-        // Most witnesses come soon, and what comes late is passed over.
-        reported(format!("program {number}"), program, 50_000)
+        let source = Source::of_bytes(&encode(&program)).unwrap();
+        of_source(&format!("program {number}"), source)
     });
     found.take(count).collect()
 }

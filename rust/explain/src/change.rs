@@ -1,0 +1,127 @@
+//! Changes of a program that add order: fences, and read-modify-writes in place of reads.
+
+use std::collections::BTreeSet;
+
+use program::limits::{LINES, LOCATIONS, REGISTERS};
+use program::{Line, Operand, Program};
+
+/// A change of a program. Threads and their lines are counted from 0.
+#[derive(Clone, Copy, Debug, PartialEq, Eq, PartialOrd, Ord)]
+pub enum Change {
+    /// A fence directly after a line.
+    Fence {
+        /// The thread.
+        thread: usize,
+        /// The line that it comes after.
+        after: usize,
+        /// The line of the later access that it is to keep apart from that.
+        before: usize,
+    },
+    /// A read-modify-write in place of an access.
+    Update {
+        /// The thread.
+        thread: usize,
+        /// The line of the access.
+        line: usize,
+    },
+}
+
+/// A program with changes made.
+#[derive(Clone, Debug, PartialEq, Eq)]
+pub struct Changed {
+    /// The program.
+    pub program: Program,
+    /// For each line of each thread the one that it was before; none for a fence.
+    pub lines: Vec<Vec<Option<usize>>>,
+}
+
+/// The program with the changes; nothing where its limits leave no room, a line has no counterpart that is a
+/// read-modify-write, or there is no such line.
+///
+/// There is no fence in the language yet: one is `FADD(f, 0)`, where f is a location of its own that all fences share.
+/// As a read-modify-write always comes directly after the write that it reads, each reads the one before it.
+pub fn changed(program: &Program, changes: &[Change]) -> Option<Changed> {
+    let mut threads = program.threads.clone();
+    let mut fences = vec![BTreeSet::new(); threads.len()];
+    for &change in changes {
+        match change {
+            Change::Fence { thread, after, .. } => {
+                program.threads.get(thread)?.get(after)?;
+                fences[thread].insert(after);
+            }
+            Change::Update { thread, line } => {
+                let line = threads.get_mut(thread)?.get_mut(line)?;
+                *line = counterpart(line)?;
+            }
+        }
+    }
+    let location = program.locations;
+    let has_fence = fences.iter().any(|after| !after.is_empty());
+    let locations = location + u8::from(has_fence);
+    let fenced = threads.iter().zip(&fences).map(|(lines, after)| fenced(lines, after, location));
+    let (threads, lines): (Vec<Vec<Line>>, _) = fenced.unzip();
+    let fits = LOCATIONS.contains(&locations)
+        && threads.iter().all(|lines| lines.len() <= usize::from(*LINES.end()));
+    let program = Program { threads, locations, values: program.values };
+    fits.then_some(Changed { program, lines })
+}
+
+/// The read-modify-write that does what the line does and writes the value that it found; nothing where the language
+/// has none.
+pub fn counterpart(line: &Line) -> Option<Line> {
+    match *line {
+        Line::Read { reg, location } => Some(Line::Fadd { reg, location, a: Operand::Constant(0) }),
+        Line::Wait { location, a } => Some(Line::Bcas { location, a, b: a }),
+        _ => None,
+    }
+}
+
+/// The lines with a fence after each of these, and what each was before.
+fn fenced(lines: &[Line], after: &BTreeSet<usize>, location: u8) -> (Vec<Line>, Vec<Option<usize>>) {
+    let fence = fence(lines, location);
+    let mut found = Vec::new();
+    for (place, &line) in lines.iter().enumerate() {
+        found.push((moved(line, after), Some(place)));
+        if after.contains(&place) {
+            found.push((fence, None));
+        }
+    }
+    found.into_iter().unzip()
+}
+
+/// A jump goes to the line that it went to before, and never to a fence in front of it.
+fn moved(line: Line, after: &BTreeSet<usize>) -> Line {
+    match line {
+        Line::Jump { target, a } => {
+            let fences = after.range(..usize::from(target)).count();
+            // A target past the limits is refused with the lines that it comes after.
+            Line::Jump { target: target.saturating_add(fences as u8), a }
+        }
+        other => other,
+    }
+}
+
+/// A fence: into a register that the thread does not use, or, where it uses all, as a BCAS, which needs none.
+fn fence(lines: &[Line], location: u8) -> Line {
+    let zero = Operand::Constant(0);
+    let is_free = |reg: &u8| !lines.iter().any(|line| uses(line, *reg));
+    match (0..REGISTERS).find(is_free) {
+        Some(reg) => Line::Fadd { reg, location, a: zero },
+        None => Line::Bcas { location, a: zero, b: zero },
+    }
+}
+
+/// Whether the line reads or changes the register.
+fn uses(line: &Line, register: u8) -> bool {
+    let (reg, operands) = match *line {
+        Line::Sum { reg, a, b } | Line::Equal { reg, a, b } | Line::Less { reg, a, b } => {
+            (Some(reg), [Some(a), Some(b)])
+        }
+        Line::Cas { reg, a, b, .. } => (Some(reg), [Some(a), Some(b)]),
+        Line::Bcas { a, b, .. } => (None, [Some(a), Some(b)]),
+        Line::Jump { a, .. } | Line::Write { a, .. } | Line::Wait { a, .. } => (None, [Some(a), None]),
+        Line::Read { reg, .. } => (Some(reg), [None; 2]),
+        Line::Fadd { reg, a, .. } => (Some(reg), [Some(a), None]),
+    };
+    reg == Some(register) || operands.contains(&Some(Operand::Register(register)))
+}

@@ -1,0 +1,153 @@
+//! What is said to help does, by the checker.
+
+use explain::{changed, Change, Checked, Help, Trial, Verdict, MOST_CHECKS};
+use models::Source;
+use program::Program;
+
+use crate::reported::{
+    check, explained, explained_by, model, models_not_robust, of_source, source, Reported,
+};
+
+fn fence(thread: usize, after: usize) -> Change {
+    Change::Fence { thread, after, before: after + 1 }
+}
+
+fn update(thread: usize, line: usize) -> Change {
+    Change::Update { thread, line }
+}
+
+fn verdict_on(program: &Program, changes: &[Change]) -> Checked {
+    check(&changed(program, changes).unwrap().program)
+}
+
+#[test]
+fn store_buffering_needs_both_fences() {
+    let explanation = explained(&model("sb"));
+    let Help { fences, updates, enough, checks } = explanation.help();
+    let trial = |changes: &[Change], verdict| Trial { changes: changes.to_vec(), verdict };
+    let both = trial(&[fence(0, 0), fence(1, 0)], Verdict::Robust);
+    let [one, other] = [fence(0, 0), fence(1, 0)].map(|fence| trial(&[fence], Verdict::NotRobust));
+    assert_eq!(*fences, [one, other, both.clone()]);
+    assert_eq!(*enough, both);
+    let reads = [update(0, 1), update(1, 1)];
+    let [one, other] = reads.map(|update| trial(&[update], Verdict::NotRobust));
+    let writes = [update(0, 0), update(1, 0)].map(|update| trial(&[update], Verdict::NoLine));
+    assert_eq!(updates[..2], [one, other]);
+    assert_eq!(updates[2], trial(&reads, Verdict::NotRobust));
+    assert_eq!(updates[3..], writes);
+    assert_eq!(*checks, 6);
+}
+
+/// Fences that the run of the report does not ask for come from the runs of the changed models.
+#[test]
+fn the_fences_of_more_cycles_are_added() {
+    let explanation = explained(&model("peterson-sc"));
+    let Help { fences, enough, .. } = explanation.help();
+    assert!(fences.iter().all(|trial| trial.verdict == Verdict::NotRobust));
+    let four = [fence(0, 0), fence(0, 1), fence(1, 0), fence(1, 1)];
+    assert_eq!(*enough, Trial { changes: four.to_vec(), verdict: Verdict::Robust });
+}
+
+#[test]
+fn every_verdict_on_the_models_is_the_checkers() {
+    for reported in models_not_robust() {
+        let explanation = explained(&reported);
+        let Help { fences, updates, enough, checks } = explanation.help();
+        assert!(*checks <= MOST_CHECKS, "{}", reported.name);
+        for Trial { changes, verdict } in fences.iter().chain(updates).chain([enough]) {
+            let expected = match verdict {
+                Verdict::NoLine => continue,
+                Verdict::Robust => Checked::Robust,
+                Verdict::NotRobust => match verdict_on(&reported.program, changes) {
+                    Checked::NotRobust { .. } => continue,
+                    other => panic!("{}: {changes:?} {other:?}", reported.name),
+                },
+                other => panic!("{}: {changes:?} {other:?}", reported.name),
+            };
+            assert_eq!(verdict_on(&reported.program, changes), expected, "{}: {changes:?}", reported.name);
+        }
+    }
+}
+
+#[test]
+fn the_models_have_fences_that_are_enough_and_none_too_many() {
+    for reported in models_not_robust() {
+        let explanation = explained(&reported);
+        let Trial { changes, verdict } = &explanation.help().enough;
+        assert_eq!(*verdict, Verdict::Robust, "{}: {changes:?}", reported.name);
+        for left_out in changes {
+            let fewer: Vec<Change> = changes.iter().copied().filter(|change| change != left_out).collect();
+            assert_ne!(
+                verdict_on(&reported.program, &fewer),
+                Checked::Robust,
+                "{}: {fewer:?}",
+                reported.name
+            );
+        }
+    }
+}
+
+#[test]
+fn a_checker_that_does_not_decide_is_believed() {
+    let explanation = explained_by(&model("sb"), &mut |_| Checked::Undecided);
+    let Help { fences, updates, enough, checks } = explanation.help();
+    assert!(fences.iter().chain([enough]).all(|trial| trial.verdict == Verdict::Undecided));
+    assert!(updates[..3].iter().all(|trial| trial.verdict == Verdict::Undecided));
+    assert_eq!(*checks, 6);
+    assert!(explanation.words(false).contains("undecided"));
+}
+
+/// What is not robust whatever is changed, and a report that is not on the changed model, end the search.
+#[test]
+fn a_checker_that_reports_nonsense_ends_the_search() {
+    let reported = model("sb");
+    let Reported { report, steps, .. } = &reported;
+    let mut nonsense = |_: &Program| Checked::NotRobust { report: *report, steps: steps[1..].to_vec() };
+    let explanation = explained_by(&reported, &mut nonsense);
+    let Help { enough, checks, .. } = explanation.help();
+    assert_eq!(*enough, Trial { changes: vec![fence(0, 0), fence(1, 0)], verdict: Verdict::NotRobust });
+    assert_eq!(*checks, 6);
+}
+
+#[test]
+fn what_has_no_room_is_said_in_words() {
+    let text = "values 2\nlocations x y a b c d e f\nthread\nx := 1\nr0 := y\nthread\ny := 1\nr0 := x\n";
+    let explanation = explained(&of_source("eight", source(text)).unwrap());
+    let Help { fences, enough, .. } = explanation.help();
+    assert!(fences.iter().chain([enough]).all(|trial| trial.verdict == Verdict::NoRoom));
+    let words = explanation.words(false);
+    assert!(words.contains("not tried   a fence between line 4 (x := 1) and line 5 (r0 := y)"), "{words}");
+}
+
+/// Threads that are written once share their lines: a change of a line is one of each of them.
+#[test]
+fn a_line_that_threads_share_is_changed_in_all_of_them() {
+    let mut source = source("values 2\nlocations x y\nthread\nx := 1\nr0 := y\nthread\ny := 1\nr0 := x\n");
+    let thread = source.program.threads[0].clone();
+    let statements = source.statements[0].clone();
+    source.program.threads.insert(1, thread);
+    source.statements.insert(1, statements);
+    let explanation = explained(&of_source("shared", source).unwrap());
+    let shared = vec![fence(0, 0), fence(1, 0)];
+    let alone = vec![fence(2, 0)];
+    let Help { fences, enough, .. } = explanation.help();
+    assert_eq!(fences[0].changes, shared);
+    assert_eq!(fences[1].changes, alone);
+    assert_eq!(*enough, Trial { changes: [shared, alone].concat(), verdict: Verdict::Robust });
+    assert!(explanation.words(false).contains("robust      fences after lines 4 and 7\n"));
+}
+
+#[test]
+fn a_source_without_its_text_is_refused() {
+    let whole: Source = source("values 2\nlocations x y\nthread\nx := 1\nr0 := y\nthread\ny := 1\nr0 := x\n");
+    let Reported { report, steps, .. } = of_source("sb", whole.clone()).unwrap();
+    let refused = |source: &Source| {
+        let found = explain::Explanation::of(source, &report, &steps, &mut check);
+        assert_eq!(found.unwrap_err(), explain::Unexplained::AnotherText);
+    };
+    refused(&Source { locations: vec!["x".into()], ..whole.clone() });
+    refused(&Source { statements: whole.statements[1..].to_vec(), ..whole.clone() });
+    let mut shorter = whole;
+    shorter.statements[1].pop();
+    refused(&shorter);
+}
