@@ -46,7 +46,7 @@ fn cluster(number: usize, rect: &Rect, nodes: &str) -> String {
 fn node(words: &Words, event: usize, rect: &Rect) -> String {
     let style = match words.execution.events[event].step {
         None => "rounded",
-        Some(_) if event == words.execution.stale() => "dashed",
+        Some(_) if words.is_stale(event) => "dashed",
         Some(_) => "solid",
     };
     let [access, origin] = [words.access(event), words.origin(event)].map(|text| quoted(&text));

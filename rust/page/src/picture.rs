@@ -63,7 +63,7 @@ impl<'a> Picture<'a> {
         let wires = wiring.wires(&boxes, &turns);
         let is_long = drawing.events().len() - drawing.starts() > MANY_ROWS;
         let bottom = boxes.iter().map(Rect::bottom).max().unwrap_or(0);
-        let height = bottom + if is_long { 2 * GAP } else { GAP };
+        let height = bottom + if is_long { 3 * GAP } else { 3 * GAP / 2 };
         let columns = frame.columns(STARTS_END + turns.height, height);
         Picture { boxes, wires, columns, width: frame.width, height, is_long, drawing }
     }

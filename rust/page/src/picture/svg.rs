@@ -68,18 +68,24 @@ fn event_box(words: &Words, event: usize, rect: &Rect) -> String {
     let Rect { x, y, width, height } = *rect;
     let class = match words.execution.events[event].step {
         None => " start",
-        Some(_) if event == words.execution.stale() => " stale",
+        Some(_) if words.is_stale(event) => " stale",
         Some(_) => "",
     };
     let radius = if class == " start" { height / 2 } else { 4 };
     let [title, access, origin] =
         [words.of_event(event), words.access(event), words.origin(event)].map(|text| escaped(&text));
     let (middle, first, second) = (rect.middle(), y + 17, y + 32);
+    let below = if class == " stale" { stale_below(rect) } else { String::new() };
     format!(
         "<g class=\"event{class}\" id=\"event-{event}\" role=\"img\"><title>{title}</title><rect x=\"{x}\" y=\"{y}\" \
          width=\"{width}\" height=\"{height}\" rx=\"{radius}\" /><text class=\"access\" x=\"{middle}\" \
-         y=\"{first}\">{access}</text><text class=\"origin\" x=\"{middle}\" y=\"{second}\">{origin}</text></g>\n"
+         y=\"{first}\">{access}</text><text class=\"origin\" x=\"{middle}\" y=\"{second}\">{origin}</text>{below}</g>\n"
     )
+}
+
+/// A word below the box of the stale access, which is the last one.
+fn stale_below(rect: &Rect) -> String {
+    format!("<text class=\"mark\" x=\"{}\" y=\"{}\">stale</text>", rect.middle(), rect.bottom() + 15)
 }
 
 /// The edges: of those that share a line the shorter ones later, so that no line is drawn over a name, and those of the

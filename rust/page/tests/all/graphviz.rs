@@ -20,7 +20,7 @@ fn the_graph_of_sb_is_this_one() {
     for start in [
         "e0 [label=\"W x = 0\\nstarting write\", style=rounded, ",
         "e3 [label=\"R y = 0\\nstep 2, line 8\", style=solid, ",
-        "e5 [label=\"R x = 0\\nstale, line 11\", style=dashed, ",
+        "e5 [label=\"R x = 0\\nstep 4, line 11\", style=dashed, ",
         "e2 -> e3 [label=\"po\", color=\"#333333\", fontcolor=\"#333333\", style=solid, arrowhead=normal, penwidth=3, ",
         "e1 -> e3 [label=\"rf\", color=\"#c8001e\", fontcolor=\"#c8001e\", style=dashed, arrowhead=normal, penwidth=1, ",
         "e0 -> e2 [label=\"mo\", color=\"#1748d1\", fontcolor=\"#1748d1\", style=dotted, arrowhead=normal, penwidth=1, ",
