@@ -2,7 +2,7 @@
 
 use crate::escape::escaped;
 use crate::legend::legend;
-use crate::picture::svg;
+use crate::picture::{svg, Picture};
 use crate::relations::LOOKS;
 use crate::steps::table;
 use crate::verdict::{head, reason};
@@ -48,7 +48,7 @@ impl Page<'_> {
     }
 
     fn picture(&self, graph: &Graph) -> String {
-        let picture = svg(self.source, graph);
+        let picture = svg(&Picture::of(self.source, graph));
         let scrolling = scrolling("The execution graph, to scroll", &picture);
         format!("<div class=\"picture\">\n{}{scrolling}</div>\n", legend())
     }

@@ -10,7 +10,7 @@ pub fn legend() -> String {
     let relations: String = LOOKS.iter().map(relation).collect();
     format!(
         "<ul class=\"legend\" aria-label=\"Legend\">\n{relations}{}{}{}</ul>\n",
-        entry(&line("po cycle"), "<b>bold</b>: the cycle, which no SC run has"),
+        entry(&line("po cycle"), "<b>bold</b>: the cycle, which no SC run has; it may leap over events"),
         entry(&rect("event stale", 3), "<b>dashed box</b>: the stale access, by an older write"),
         entry(&rect("event start", 9), "<b>round box</b>: the starting write of a location"),
     )

@@ -14,40 +14,84 @@ mod svg;
 mod trunks;
 mod wires;
 
+use std::ops::Range;
+
+use models::Source;
+
 use crate::drawn::{drawn, Drawn};
 use crate::words::Words;
 use crate::Graph;
-use models::Source;
 
+use boxes::{boxes, GAP, STARTS_END};
+use frame::Frame;
+use ports::Ports;
+use trunks::trunks;
+use wires::Wiring;
+
+pub use boxes::Rect;
+pub use path::{without_head, Point};
 pub use svg::svg;
+pub use wires::Wire;
 
-/// What is drawn.
-struct Drawing<'a> {
-    words: Words<'a>,
-    edges: Vec<Drawn>,
+/// With more rows than this the headings stand below the columns too.
+const MANY_ROWS: usize = 12;
+
+/// A graph, and where its parts stand.
+pub struct Picture<'a> {
+    pub drawing: Drawing<'a>,
+    /// The box of each event.
+    pub boxes: Vec<Rect>,
+    /// The way of each edge that is drawn.
+    pub wires: Vec<Wire>,
+    /// The column of each thread, with room for its heading.
+    pub columns: Vec<Rect>,
+    pub width: i32,
+    pub height: i32,
+    /// Whether it has many rows.
+    pub is_long: bool,
 }
 
-impl<'a> Drawing<'a> {
-    fn of(source: &'a Source, graph: &Graph<'a>) -> Drawing<'a> {
-        Drawing { words: Words { source, execution: graph.execution }, edges: drawn(graph) }
+impl<'a> Picture<'a> {
+    pub fn of(source: &'a Source, graph: &Graph<'a>) -> Picture<'a> {
+        let drawing = Drawing { words: Words { source, execution: graph.execution }, edges: drawn(graph) };
+        let (trunks, lanes) = trunks(&drawing);
+        let frame = Frame::of(&drawing, &lanes);
+        let ports = Ports::of(&drawing, &trunks);
+        let wiring = Wiring { drawing: &drawing, frame: &frame, trunks: &trunks, ports: &ports };
+        let turns = wiring.turns();
+        let boxes = boxes(&drawing, &frame, turns.height);
+        let wires = wiring.wires(&boxes, &turns);
+        let is_long = drawing.events().len() - drawing.starts() > MANY_ROWS;
+        let bottom = boxes.iter().map(Rect::bottom).max().unwrap_or(0);
+        let height = bottom + if is_long { 3 * GAP } else { 3 * GAP / 2 };
+        let columns = frame.columns(STARTS_END + turns.height, height);
+        Picture { boxes, wires, columns, width: frame.width, height, is_long, drawing }
     }
+}
 
+/// What is drawn.
+pub struct Drawing<'a> {
+    pub words: Words<'a>,
+    pub edges: Vec<Drawn>,
+}
+
+impl Drawing<'_> {
     /// How many columns there are.
-    fn threads(&self) -> usize {
+    pub fn threads(&self) -> usize {
         self.words.source.statements.len()
     }
 
     /// How many starting writes there are, which are the first events.
-    fn starts(&self) -> usize {
+    pub fn starts(&self) -> usize {
         self.words.execution.orders.len()
     }
 
-    fn events(&self) -> std::ops::Range<usize> {
+    pub fn events(&self) -> Range<usize> {
         0..self.words.execution.events.len()
     }
 
     /// The column of an event; none for a starting write.
-    fn column(&self, event: usize) -> Option<usize> {
+    pub fn column(&self, event: usize) -> Option<usize> {
         self.words.execution.events[event].thread
     }
 

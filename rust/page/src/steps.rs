@@ -8,23 +8,23 @@ pub fn table(words: &Words) -> String {
     let rows: String = (0..words.execution.steps.len()).map(|step| row(words, step)).collect();
     format!(
         "<table>\n<thead><tr><th scope=\"col\">step</th><th scope=\"col\">thread</th><th scope=\"col\">line</th>\
-         <th scope=\"col\">text</th><th scope=\"col\">access</th></tr></thead>\n<tbody>\n{rows}</tbody>\n</table>\n"
+         <th scope=\"col\">statement</th><th scope=\"col\">access</th></tr></thead>\n<tbody>\n{rows}</tbody>\n</table>\n"
     )
 }
 
 fn row(words: &Words, step: usize) -> String {
     let taken = &words.execution.steps[step];
     let statement = words.statement(step);
-    let is_stale = taken.event == Some(words.execution.stale());
-    let class = if is_stale { " class=\"stale\"" } else { "" };
-    let number = if is_stale { "stale".into() } else { (step + 1).to_string() };
+    let is_stale = taken.event.is_some_and(|event| words.is_stale(event));
+    let (class, stale) = if is_stale { (" class=\"stale\"", ", stale") } else { ("", "") };
     let access = match taken.event {
         Some(event) => format!("<td><code>{}</code></td>", escaped(&words.access(event))),
         None => "<td class=\"local\">none, a local line</td>".into(),
     };
     format!(
-        "<tr{class}><th scope=\"row\">{number}</th><td>{}</td><td><a href=\"#line-{line}\">{line}</a></td>\
+        "<tr{class}><th scope=\"row\">{}{stale}</th><td>{}</td><td><a href=\"#line-{line}\">{line}</a></td>\
          <td><code>{}</code></td>{access}</tr>\n",
+        step + 1,
         taken.thread + 1,
         escaped(&statement.text),
         line = statement.line,

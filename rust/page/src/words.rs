@@ -18,7 +18,8 @@ impl<'a> Words<'a> {
         &self.execution.events[event]
     }
 
-    fn is_stale(&self, event: usize) -> bool {
+    /// Whether it is the stale access, the last event.
+    pub fn is_stale(&self, event: usize) -> bool {
         event == self.execution.stale()
     }
 
@@ -44,7 +45,6 @@ impl<'a> Words<'a> {
     pub fn origin(&self, event: usize) -> String {
         match self.event(event).step {
             None => "starting write".into(),
-            Some(step) if self.is_stale(event) => format!("stale, line {}", self.statement(step).line),
             Some(step) => format!("step {}, line {}", step + 1, self.statement(step).line),
         }
     }
@@ -56,23 +56,22 @@ impl<'a> Words<'a> {
             return format!("Starting write {access}");
         };
         let Statement { line, text } = self.statement(step);
-        let place = format!("thread {}, line {line} ({text}): {access}", thread + 1);
-        if self.is_stale(event) {
-            let newest = self.named(self.execution.newest);
-            format!("Stale access of {place}. It goes by an older write than {newest}, the newest.")
-        } else {
-            format!("Step {} of {place}", step + 1)
+        let words = format!("Step {} of thread {}, line {line} ({text}): {access}", step + 1, thread + 1);
+        if !self.is_stale(event) {
+            return words;
         }
+        let newest = self.named(self.execution.newest);
+        format!("{words}. This is the stale access: it goes by an older write than {newest}, the newest.")
     }
 
     /// An event by its access and its step.
     fn named(&self, event: usize) -> String {
         let access = self.access(event);
+        let stale = if self.is_stale(event) { ", stale" } else { "" };
         match (self.event(event).step, self.event(event).thread) {
-            (Some(_), Some(thread)) if self.is_stale(event) => {
-                format!("{access} (stale access, thread {})", thread + 1)
+            (Some(step), Some(thread)) => {
+                format!("{access} (step {}, thread {}{stale})", step + 1, thread + 1)
             }
-            (Some(step), Some(thread)) => format!("{access} (step {}, thread {})", step + 1, thread + 1),
             _ => format!("{access} (starting write)"),
         }
     }

@@ -95,11 +95,9 @@ fn is_shown(browser: &Path, reported: &Reported) {
     for event in 0..events {
         let start = format!("id=\"event-{event}\" role=\"img\">");
         let drawn = between(&dom, &start, "</g>").unwrap_or_else(|| panic!("{name}: no box {event}"));
-        assert_eq!(
-            (drawn.matches("<rect ").count(), drawn.matches("<text ").count()),
-            (1, 2),
-            "{name}: {drawn}"
-        );
+        for part in ["<title>", "<rect ", "class=\"access\"", "class=\"origin\""] {
+            assert_eq!(drawn.matches(part).count(), 1, "{name}: {drawn}");
+        }
     }
     assert_eq!(dom.matches("id=\"event-").count(), events, "{name}");
 }

@@ -1,5 +1,6 @@
 //! Where columns, gutters and starting writes stand, from left to right.
 
+use super::boxes::Rect;
 use super::trunks::Trunk;
 use super::Drawing;
 
@@ -12,13 +13,16 @@ const SIGN: i32 = 8;
 const SMALL_SIGN: i32 = 6;
 const PADDING: i32 = 20;
 
+/// Room between a column's sides and its boxes.
+const MARGIN: i32 = 8;
+
 /// Positions from left to right.
 pub struct Frame {
     pub width: i32,
     /// The width of each box.
     pub box_width: i32,
     /// The left side of each column's boxes.
-    pub columns: Vec<i32>,
+    columns: Vec<i32>,
     /// The left side of each starting write.
     pub starts: Vec<i32>,
     gutters: Vec<i32>,
@@ -47,6 +51,17 @@ impl Frame {
         let share = width / drawing.starts().max(1) as i32;
         let start = |start: usize| on_lane(start as i32 * share + (share - box_width) / 2);
         Frame { width, box_width, columns, starts: (0..drawing.starts()).map(start).collect(), gutters }
+    }
+
+    /// The columns between two heights, a little wider than their boxes.
+    pub fn columns(&self, top: i32, bottom: i32) -> Vec<Rect> {
+        let column = |&left: &i32| Rect {
+            x: left - MARGIN,
+            y: top,
+            width: self.box_width + 2 * MARGIN,
+            height: bottom - top,
+        };
+        self.columns.iter().map(column).collect()
     }
 
     /// Where the line of a trunk runs.

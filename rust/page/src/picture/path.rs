@@ -1,23 +1,29 @@
-//! The lines of edges in SVG.
+//! The lines of edges and their heads.
 
 /// The radius of a line's turns.
 const RADIUS: i32 = 7;
 
-type Point = (i32, i32);
+/// A point of the picture, from the left and from the top.
+pub type Point = (i32, i32);
 
-/// The data of a line along the points, with round turns; it ends in the head of the edge.
-pub fn path(points: &[Point], in_cycle: bool) -> String {
-    let mut points = points.to_vec();
-    if let [.., before, last] = &mut points[..] {
-        *last = toward(*last, *before, head_length(in_cycle) - 1);
-    }
+/// The data of a line along the points in SVG, with round turns.
+pub fn path(points: &[Point]) -> String {
     let mut data = points.first().map_or_else(String::new, |(x, y)| format!("M{x} {y}"));
     data.extend(points.windows(3).map(|part| turn(part[0], part[1], part[2])));
     data.extend(points.last().map(|(x, y)| format!("L{x} {y}")));
     data
 }
 
-/// The data of the edge's head.
+/// The same points, but the last one within the edge's head.
+pub fn without_head(points: &[Point], in_cycle: bool) -> Vec<Point> {
+    let mut points = points.to_vec();
+    if let [.., before, last] = &mut points[..] {
+        *last = toward(*last, *before, head_length(in_cycle) - 1);
+    }
+    points
+}
+
+/// The data of the edge's head in SVG.
 pub fn head(points: &[Point], in_cycle: bool) -> String {
     let [.., before, tip] = *points else { return String::new() };
     let length = head_length(in_cycle);

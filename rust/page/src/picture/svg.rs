@@ -1,58 +1,45 @@
 //! The picture's text.
 
+use std::cmp::Reverse;
+
 use crate::drawn::Drawn;
 use crate::escape::escaped;
 use crate::relations::look;
 use crate::words::Words;
-use crate::Graph;
-use models::Source;
 
-use super::boxes::{boxes, Rect, GAP, STARTS_END};
-use super::frame::Frame;
-use super::path::{head, path};
-use super::ports::Ports;
-use super::trunks::trunks;
-use super::wires::{Wire, Wiring};
-use super::Drawing;
+use super::path::{head, path, without_head};
+use super::trunks::root_and_leaf;
+use super::{Picture, Rect, Wire};
 
 /// The room around the picture, for bold lines at its sides.
 const MARGIN: i32 = 8;
 
-/// With more rows than this the headings stand below the columns too.
-const MANY_ROWS: usize = 12;
-
 /// A picture higher than this could not be read on one page, and is printed on several.
 const TALL: i32 = 4_000;
 
-/// The graph as an element of HTML.
-pub fn svg(source: &Source, graph: &Graph) -> String {
-    let drawing = &Drawing::of(source, graph);
-    let (trunks, lanes) = &trunks(drawing);
-    let frame = &Frame::of(drawing, lanes);
-    let wiring = Wiring { drawing, frame, trunks, ports: &Ports::of(drawing, trunks) };
-    let turns = wiring.turns();
-    let boxes = boxes(drawing, frame, turns.height);
-    let bottom = boxes.iter().map(Rect::bottom).max().unwrap_or(0);
-    let is_long = boxes.len() - drawing.starts() > MANY_ROWS;
-    let height = bottom + if is_long { 2 * GAP } else { GAP };
-    let wires = wiring.wires(&boxes, &turns);
+/// The picture as an element of HTML.
+pub fn svg(picture: &Picture) -> String {
+    let words = &picture.drawing.words;
+    let boxes = picture.boxes.iter().enumerate();
     [
-        opening(drawing, graph, frame.width, height),
-        columns(frame, STARTS_END + turns.height, height, is_long),
-        drawing.events().map(|event| event_box(&drawing.words, event, &boxes[event])).collect(),
-        edges(drawing, &wires),
+        opening(picture),
+        picture.columns.iter().enumerate().map(|(thread, rect)| column(picture, thread, rect)).collect(),
+        boxes.map(|(event, rect)| event_box(words, event, rect)).collect(),
+        edges(picture),
         "</svg>\n".into(),
     ]
     .concat()
 }
 
 /// The start of the element, with a text in place of the picture. Role `img` would hide the parts from screen readers.
-fn opening(drawing: &Drawing, graph: &Graph, width: i32, height: i32) -> String {
+fn opening(picture: &Picture) -> String {
     let [x, y] = [-MARGIN; 2];
-    let [width, height] = [width, height].map(|it| it + 2 * MARGIN);
+    let [width, height] = [picture.width, picture.height].map(|it| it + 2 * MARGIN);
+    let drawing = &picture.drawing;
     let (starts, threads) = (drawing.starts(), drawing.threads());
     let accesses = drawing.events().len() - starts;
-    let cycle: Vec<String> = graph.cycle.iter().map(|&edge| drawing.words.of_edge(edge, true)).collect();
+    let cycle = drawing.edges.iter().filter(|drawn| drawn.in_cycle);
+    let cycle: Vec<String> = cycle.map(|drawn| drawing.words.of_edge(drawn.edge, true)).collect();
     let tall = if height > TALL { " tall" } else { "" };
     format!(
         "<svg xmlns=\"http://www.w3.org/2000/svg\" class=\"graph{tall}\" role=\"graphics-document document\" \
@@ -63,48 +50,52 @@ fn opening(drawing: &Drawing, graph: &Graph, width: i32, height: i32) -> String 
     )
 }
 
-/// A ground for each thread's column, with its heading.
-fn columns(frame: &Frame, top: i32, bottom: i32, is_long: bool) -> String {
-    let column = |(thread, &left): (usize, &i32)| {
-        let heading = |y: i32| {
-            let x = left + frame.box_width / 2;
-            format!("<text class=\"heading\" x=\"{x}\" y=\"{y}\">thread {}</text>", thread + 1)
-        };
-        let (x, width, height) = (left - 8, frame.box_width + 16, bottom - top);
-        let below = if is_long { heading(bottom - 12) } else { String::new() };
-        format!(
-            "<g class=\"thread\"><rect class=\"column\" x=\"{x}\" y=\"{top}\" width=\"{width}\" \
-             height=\"{height}\" rx=\"6\" />{}{below}</g>\n",
-            heading(top + 20),
-        )
+/// A ground for a thread's column, with its heading.
+fn column(picture: &Picture, thread: usize, rect: &Rect) -> String {
+    let Rect { x, y, width, height } = *rect;
+    let heading = |y: i32| {
+        format!("<text class=\"heading\" x=\"{}\" y=\"{y}\">thread {}</text>", rect.middle(), thread + 1)
     };
-    frame.columns.iter().enumerate().map(column).collect()
+    let below = if picture.is_long { heading(rect.bottom() - 12) } else { String::new() };
+    format!(
+        "<g class=\"thread\"><rect class=\"column\" x=\"{x}\" y=\"{y}\" width=\"{width}\" height=\"{height}\" \
+         rx=\"6\" />{}{below}</g>\n",
+        heading(y + 20),
+    )
 }
 
 fn event_box(words: &Words, event: usize, rect: &Rect) -> String {
     let Rect { x, y, width, height } = *rect;
     let class = match words.execution.events[event].step {
         None => " start",
-        Some(_) if event == words.execution.stale() => " stale",
+        Some(_) if words.is_stale(event) => " stale",
         Some(_) => "",
     };
     let radius = if class == " start" { height / 2 } else { 4 };
     let [title, access, origin] =
         [words.of_event(event), words.access(event), words.origin(event)].map(|text| escaped(&text));
     let (middle, first, second) = (rect.middle(), y + 17, y + 32);
+    let below = if class == " stale" { stale_below(rect) } else { String::new() };
     format!(
         "<g class=\"event{class}\" id=\"event-{event}\" role=\"img\"><title>{title}</title><rect x=\"{x}\" y=\"{y}\" \
          width=\"{width}\" height=\"{height}\" rx=\"{radius}\" /><text class=\"access\" x=\"{middle}\" \
-         y=\"{first}\">{access}</text><text class=\"origin\" x=\"{middle}\" y=\"{second}\">{origin}</text></g>\n"
+         y=\"{first}\">{access}</text><text class=\"origin\" x=\"{middle}\" y=\"{second}\">{origin}</text>{below}</g>\n"
     )
 }
 
-/// The edges, those of the cycle last and so on top.
-fn edges(drawing: &Drawing, wires: &[Wire]) -> String {
-    let all = || drawing.edges.iter().zip(wires);
-    let shown = |(drawn, wire)| edge(&drawing.words, drawn, wire);
-    let (others, cycle) = (all().filter(|it| !it.0.in_cycle), all().filter(|it| it.0.in_cycle));
-    others.chain(cycle).map(shown).collect()
+/// A word below the box of the stale access, which is the last one.
+fn stale_below(rect: &Rect) -> String {
+    format!("<text class=\"mark\" x=\"{}\" y=\"{}\">stale</text>", rect.middle(), rect.bottom() + 15)
+}
+
+/// The edges: of those that share a line the shorter ones later, so that no line is drawn over a name, and those of the
+/// cycle last.
+fn edges(picture: &Picture) -> String {
+    let drawing = &picture.drawing;
+    let mut edges: Vec<(&Drawn, &Wire)> = drawing.edges.iter().zip(&picture.wires).collect();
+    let rows = |drawn: &Drawn| drawing.row(drawn.edge.from).abs_diff(drawing.row(drawn.edge.to));
+    edges.sort_by_key(|(drawn, _)| (drawn.in_cycle, Reverse(rows(drawn))));
+    edges.into_iter().map(|(drawn, wire)| edge(&drawing.words, drawn, wire)).collect()
 }
 
 fn edge(words: &Words, drawn: &Drawn, wire: &Wire) -> String {
@@ -115,11 +106,16 @@ fn edge(words: &Words, drawn: &Drawn, wire: &Wire) -> String {
     let title = escaped(&words.of_edge(edge, in_cycle));
     let (x, y) = wire.name;
     let (from, to) = (edge.from, edge.to);
+    let mut way = without_head(&wire.points, in_cycle);
+    if root_and_leaf(drawn).0 == to {
+        // Where edges share a line, their dashes fall on each other.
+        way.reverse();
+    }
     format!(
         "<g class=\"edge {short}{cycle}\" data-from=\"event-{from}\" data-to=\"event-{to}\" role=\"img\"><title>{title}\
          </title><path class=\"way\" d=\"{}\" /><path class=\"head\" d=\"{}\" /><text class=\"name{beside}\" x=\"{x}\" \
          y=\"{}\">{short}</text></g>\n",
-        path(&wire.points, in_cycle),
+        path(&way),
         head(&wire.points, in_cycle),
         y + 4,
     )

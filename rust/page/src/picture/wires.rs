@@ -5,6 +5,7 @@ use std::collections::HashMap;
 use super::boxes::{Rect, GAP, STARTS_END};
 use super::frame::{Frame, LANE};
 use super::lanes::lanes;
+use super::path::Point;
 use super::ports::{Port, Ports, Side};
 use super::trunks::{root_and_leaf, Trunk};
 use super::Drawing;
@@ -12,12 +13,15 @@ use super::Drawing;
 /// The distance of two lines below the starting writes.
 const TURN: i32 = 10;
 
+/// How far beside a straight line its name stands.
+const BESIDE: i32 = 15;
+
 /// The way of an edge, and where its name stands.
 #[derive(Clone, Default)]
 pub struct Wire {
-    pub points: Vec<(i32, i32)>,
-    /// The middle of the name; of a straight line the start of it.
-    pub name: (i32, i32),
+    pub points: Vec<Point>,
+    /// The middle of the name.
+    pub name: Point,
 }
 
 /// What the ways are made from.
@@ -73,7 +77,7 @@ impl Wiring<'_> {
     pub fn wires(&self, boxes: &[Rect], turns: &Turns) -> Vec<Wire> {
         let straight = |edge: explain::Edge| {
             let (x, top) = (boxes[edge.to].middle(), boxes[edge.to].y);
-            Wire { points: vec![(x, boxes[edge.from].bottom()), (x, top)], name: (x + 7, top - GAP / 2) }
+            Wire { points: vec![(x, boxes[edge.from].bottom()), (x, top)], name: (x + BESIDE, top - GAP / 2) }
         };
         let mut wires: Vec<Wire> = self.drawing.edges.iter().map(|drawn| straight(drawn.edge)).collect();
         for trunk in self.trunks {
@@ -91,7 +95,7 @@ impl Wiring<'_> {
         let lane = self.frame.lane(trunk);
         let mut points = self.end(&Port::of(self.drawing, trunk, drawn.edge.from, true), boxes, turns);
         let mut end = self.end(&Port::of(self.drawing, trunk, drawn.edge.to, false), boxes, turns);
-        let turn = |points: &[(i32, i32)]| points.last().map(|&(_, y)| (lane, y));
+        let turn = |points: &[Point]| points.last().map(|&(_, y)| (lane, y));
         points.extend(turn(&points));
         end.extend(turn(&end));
         points.extend(end.into_iter().rev());
@@ -102,7 +106,7 @@ impl Wiring<'_> {
     }
 
     /// The way from a port to where it turns to the lane.
-    fn end(&self, port: &Port, boxes: &[Rect], turns: &Turns) -> Vec<(i32, i32)> {
+    fn end(&self, port: &Port, boxes: &[Rect], turns: &Turns) -> Vec<Point> {
         let rect = &boxes[port.event];
         let y = rect.y + self.ports.offset(port, rect.height);
         match port.side {

@@ -31,7 +31,7 @@ pub struct DrawnEdge {
     pub relation: String,
     pub in_cycle: bool,
     pub title: String,
-    /// Its line, with each turn as a corner.
+    /// Its line from its first event, with each turn as a corner. That of from-read is drawn the other way.
     pub line: Vec<(i32, i32)>,
     /// The tip of its head, and the two points behind it.
     pub head: Vec<(i32, i32)>,
@@ -105,18 +105,21 @@ fn drawn_box(element: &Element) -> DrawnBox {
 }
 
 fn drawn_edge(element: &Element) -> DrawnEdge {
+    let mut line = points(element.with_class("way")[0].attribute("d"));
+    if element.has_class("fr") {
+        line.reverse();
+    }
     let name = element.with_class("name")[0];
     let (x, y) = (name.number("x"), name.number("y"));
-    // Two letters of 12 pixels, in the middle or from there on.
-    let left = if name.has_class("beside") { x } else { x - 8 };
     DrawnEdge {
         ends: ["data-from", "data-to"].map(|end| element.attribute(end).into()),
         relation: name.text(),
         in_cycle: element.has_class("cycle"),
         title: element.named("title")[0].text(),
-        line: points(element.with_class("way")[0].attribute("d")),
+        line,
         head: points(element.with_class("head")[0].attribute("d")),
-        name: Area { x: [left, left + 16], y: [y - 10, y + 3] },
+        // Two letters of 12 pixels.
+        name: Area { x: [x - 8, x + 8], y: [y - 10, y + 3] },
     }
 }
 

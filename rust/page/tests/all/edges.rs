@@ -94,13 +94,13 @@ fn an_edge_is_told_in_words() {
     assert_eq!(
         titles,
         [
-            "from-read, in the cycle: from R x = 0 (stale access, thread 2) to W x = 1 (step 1, thread 1)",
+            "from-read, in the cycle: from R x = 0 (step 4, thread 2, stale) to W x = 1 (step 1, thread 1)",
             "from-read, in the cycle: from R y = 0 (step 2, thread 1) to W y = 1 (step 3, thread 2)",
             "modification order: from W x = 0 (starting write) to W x = 1 (step 1, thread 1)",
             "modification order: from W y = 0 (starting write) to W y = 1 (step 3, thread 2)",
             "program order, in the cycle: from W x = 1 (step 1, thread 1) to R y = 0 (step 2, thread 1)",
-            "program order, in the cycle: from W y = 1 (step 3, thread 2) to R x = 0 (stale access, thread 2)",
-            "reads-from: from W x = 0 (starting write) to R x = 0 (stale access, thread 2)",
+            "program order, in the cycle: from W y = 1 (step 3, thread 2) to R x = 0 (step 4, thread 2, stale)",
+            "reads-from: from W x = 0 (starting write) to R x = 0 (step 4, thread 2, stale)",
             "reads-from: from W y = 0 (starting write) to R y = 0 (step 2, thread 1)",
         ]
     );

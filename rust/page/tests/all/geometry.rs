@@ -111,6 +111,18 @@ fn the_names_of_edges_meet_neither_boxes_nor_each_other() {
     });
 }
 
+#[test]
+fn no_line_is_drawn_over_a_name() {
+    for_each_picture(|name, drawing| {
+        for (place, edge) in drawing.edges.iter().enumerate() {
+            for later in &drawing.edges[place + 1..] {
+                let mut areas = later.segments().into_iter().map(area_of);
+                assert!(!areas.any(|area| area.meets(&edge.name)), "{name}: {} {}", later.title, edge.title);
+            }
+        }
+    });
+}
+
 /// Whether a line that is drawn otherwise lies along one of this edge's, and does not only cross it.
 fn lies_on(edge: &DrawnEdge, other: &DrawnEdge) -> bool {
     let is_upright = |[from, to]: Segment| from.0 == to.0;

@@ -81,11 +81,11 @@ fn the_table_has_the_steps_and_then_the_stale_access() {
     assert_eq!(
         rows,
         [
-            ["step", "thread", "line", "text", "access"],
+            ["step", "thread", "line", "statement", "access"],
             ["1", "1", "7", "x := 1", "W x = 1"],
             ["2", "1", "8", "r0 := y", "R y = 0"],
             ["3", "2", "10", "y := 1", "W y = 1"],
-            ["stale", "2", "11", "r0 := x", "R x = 0"],
+            ["4, stale", "2", "11", "r0 := x", "R x = 0"],
         ]
     );
     assert!(page.named("th").iter().all(|it| ["col", "row"].contains(&it.attribute("scope"))));

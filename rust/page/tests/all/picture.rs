@@ -7,6 +7,7 @@ use explain::Event;
 
 use crate::drawing::{page, Drawing};
 use crate::reported::{named, with_graph, Reported};
+use crate::xml::Element;
 
 #[test]
 fn every_event_has_its_box_with_its_text() {
@@ -48,9 +49,9 @@ fn a_box_says_where_its_event_comes_from() {
             ("step 2, line 8", "Step 2 of thread 1, line 8 (r0 := y): R y = 0"),
             ("step 3, line 10", "Step 3 of thread 2, line 10 (y := 1): W y = 1"),
             (
-                "stale, line 11",
-                "Stale access of thread 2, line 11 (r0 := x): R x = 0. It goes by an older write than W x = 1 (step \
-                 1, thread 1), the newest.",
+                "step 4, line 11",
+                "Step 4 of thread 2, line 11 (r0 := x): R x = 0. This is the stale access: it goes by an older write \
+                 than W x = 1 (step 1, thread 1), the newest.",
             ),
         ]
     );
@@ -75,7 +76,9 @@ fn the_stale_access_alone_is_dashed_and_the_starting_writes_are_round() {
         expected[classes.len() - 1] = "event stale";
         assert_eq!(classes, expected, "{}", reported.name);
     }
-    let style = page(named("crowd.order")).named("style")[0].text();
+    let page = page(named("crowd.order"));
+    assert_eq!(page.with_class("mark").into_iter().map(Element::text).collect::<Vec<_>>(), ["stale"]);
+    let style = page.named("style")[0].text();
     let dashed = |line: &&str| line.contains("stroke-dasharray: 7 4");
     assert_eq!(style.lines().filter(dashed).count(), 1);
     assert!(style.lines().find(dashed).unwrap().starts_with(".event.stale rect {"));
