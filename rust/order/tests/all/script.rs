@@ -9,9 +9,9 @@ use std::process::Command;
 use crate::user::{checker, ends, ends_quietly, finish, folder, SB, SB_LINES};
 
 /// What the script uses of the system, beside what builds.
-const TOOLS: [&str; 14] = [
-    "bash", "cat", "cp", "dirname", "env", "find", "mkdir", "mktemp", "readlink", "rm", "sed", "sh", "tee",
-    "touch",
+const TOOLS: [&str; 15] = [
+    "bash", "cat", "cp", "dirname", "env", "find", "mkdir", "mktemp", "mv", "readlink", "rm", "sed", "sh",
+    "tee", "touch",
 ];
 
 /// A tree with the script, and with all that it builds unless `bare`.
@@ -40,6 +40,9 @@ impl Tree {
             tree.copy(&checker(), "target/bin/order_check");
             tree.write("target/staticlib/liborder_check_c.a", "");
             tree.copy(Path::new(env!("CARGO_BIN_EXE_order")), "rust/target/release/order");
+            for stamp in ["checker", "library", "command"] {
+                tree.write(&format!("target/order/{stamp}"), "");
+            }
         }
         tree
     }
@@ -144,12 +147,21 @@ fn what_is_missing_is_built_crate_by_crate() {
         assert!(said.contains(&format!("order: {line}")), "{said}");
     }
     ends_quietly(&finish(&mut tree.shell("./order sb"), b""), 10, SB_LINES);
-    // A source that is newer than what was made of it.
-    fs::remove_file(tree.root.join("target/bin/order_check")).unwrap();
-    tree.tool("rt", "echo 'the reason'; exit 3");
-    let said = ends(&finish(&mut tree.shell("./order sb"), b""), 1, "");
-    assert!(
-        said.contains("the reason\n") && said.ends_with("order: rt check order_check failed\n"),
-        "{said}"
-    );
+}
+
+#[test]
+fn a_build_that_fails_or_is_broken_off_does_not_count() {
+    let tree = Tree::new("fails", false);
+    tree.write("crates/a", "newer than what was made of it");
+    for reason in ["echo 'the reason'; exit 3", "touch target/bin/order_check; echo 'the reason'; kill -9 $$"]
+    {
+        tree.tool("rt", reason);
+        for _ in 0..2 {
+            let said = ends(&finish(&mut tree.shell("./order sb"), b""), 1, "");
+            assert!(said.contains("the reason\n"), "{said}");
+            assert!(said.ends_with("order: that failed, and nothing was checked\n"), "{said}");
+        }
+    }
+    tree.tool("rt", "echo made");
+    ends(&finish(&mut tree.shell("./order sb"), b""), 10, SB_LINES);
 }
