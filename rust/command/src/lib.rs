@@ -4,6 +4,7 @@
 use std::fmt::Display;
 use std::fs::File;
 use std::io::{self, ErrorKind, Read, Write};
+use std::os::fd::AsFd;
 use std::process::{exit, ExitCode};
 
 use program::limits::LONGEST_INPUT;
@@ -48,12 +49,16 @@ pub fn version(command: &str) -> String {
 /// What the name `-` stands for.
 const STANDARD_INPUT: &str = "standard input";
 
-/// What messages call a file.
-pub fn name_of(file: &str) -> &str {
+/// What messages call a file. A line break in a name would make two lines of one.
+pub fn name_of(file: &str) -> String {
+    let shown = |character: char| match character.is_control() {
+        true => character.escape_default().to_string(),
+        false => character.into(),
+    };
     if file == "-" {
-        STANDARD_INPUT
+        STANDARD_INPUT.into()
     } else {
-        file
+        file.chars().map(shown).collect()
     }
 }
 
@@ -87,8 +92,9 @@ pub enum Unwritten {
 
 /// Writes all of it to standard output.
 pub fn write_out(bytes: &[u8]) -> Result<(), Unwritten> {
-    let mut output = io::stdout().lock();
-    output.write_all(bytes).and_then(|()| output.flush()).map_err(|error| match error.kind() {
+    // Not by `Stdout`: for that a file which can't be written is as good as one that is.
+    let output = io::stdout().as_fd().try_clone_to_owned().map(File::from);
+    output.and_then(|mut output| output.write_all(bytes)).map_err(|error| match error.kind() {
         ErrorKind::BrokenPipe => Unwritten::ReaderGone,
         _ => Unwritten::Failed(format!("standard output: {error}")),
     })

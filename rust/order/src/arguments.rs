@@ -1,5 +1,7 @@
 //! What the command line asks for.
 
+use std::fs::canonicalize;
+
 /// What is asked for.
 pub enum Asked {
     Help,
@@ -39,24 +41,31 @@ pub enum Show {
 
 /// The task of the arguments, or what is wrong with them.
 pub fn parse(arguments: Vec<String>) -> Result<Asked, String> {
+    // With a file beside them they would end with 0, which says RB.
+    match arguments.iter().map(String::as_str).collect::<Vec<_>>()[..] {
+        ["--help" | "-h"] => return Ok(Asked::Help),
+        ["--version"] => return Ok(Asked::Version),
+        _ => {}
+    }
     let mut task = Task::default();
     let mut arguments = arguments.into_iter();
     while let Some(argument) = arguments.next() {
         match argument.as_str() {
-            "--help" | "-h" => return Ok(Asked::Help),
-            "--version" => return Ok(Asked::Version),
             "--explain" => task.show(Show::Words)?,
             "--json" => task.show(Show::Json)?,
             "--expect" => task.show(Show::Expected)?,
             "-v" | "--verbose" => task.verbose = true,
             "-q" | "--quiet" => task.quiet = true,
-            "--table" => task.table = Some(size(&value(&argument, "a size", &mut arguments)?)?),
-            "--html" => task.html = Some(value(&argument, "a file", &mut arguments)?),
-            "--dot" => task.dot = Some(value(&argument, "a file", &mut arguments)?),
+            "--table" => {
+                once(&mut task.table, &argument, size(&value(&argument, "a size", &mut arguments)?)?)?
+            }
+            "--html" => once(&mut task.html, &argument, value(&argument, "a file", &mut arguments)?)?,
+            "--dot" => once(&mut task.dot, &argument, value(&argument, "a file", &mut arguments)?)?,
             "--" => task.files.extend(arguments.by_ref()),
             "-" => task.files.push(argument),
+            "--help" | "-h" | "--version" => return Err(format!("{argument} stands alone")),
             option if option.starts_with('-') => match option.strip_prefix("--table=") {
-                Some(bytes) => task.table = Some(size(bytes)?),
+                Some(bytes) => once(&mut task.table, "--table", size(bytes)?)?,
                 None => return Err(format!("{option} is no option")),
             },
             _ => task.files.push(argument),
@@ -70,10 +79,25 @@ fn value(option: &str, what: &str, arguments: &mut impl Iterator<Item = String>)
     arguments.next().ok_or_else(|| format!("expected {what} after {option}"))
 }
 
+/// An option that is given once.
+fn once<T>(place: &mut Option<T>, option: &str, value: T) -> Result<(), String> {
+    match place.replace(value) {
+        None => Ok(()),
+        Some(_) => Err(format!("expected one {option}")),
+    }
+}
+
 impl Task {
     /// Whether it asks for a page or a graph.
     pub fn draws(&self) -> bool {
         self.html.is_some() || self.dot.is_some()
+    }
+
+    /// Whether a file to write is one to read, or has the ending of those.
+    fn is_read(&self, file: &str) -> bool {
+        let same =
+            |other: &String| matches!((canonicalize(file), canonicalize(other)), (Ok(a), Ok(b)) if a == b);
+        file != "-" && (file.ends_with(".order") || self.files.iter().any(same))
     }
 
     /// Whether its parts go together.
@@ -86,6 +110,9 @@ impl Task {
             Err("--html and --dot are for one model".into())
         } else if self.draws() && self.show == Show::Expected {
             Err("--expect goes with neither --html nor --dot".into())
+        } else if let Some(model) = [&self.html, &self.dot].into_iter().flatten().find(|it| self.is_read(it))
+        {
+            Err(format!("{model} is a model, and would be written over"))
         } else {
             Ok(())
         }

@@ -16,7 +16,7 @@ pub fn json(input: &Input, decided: &Decided, explanation: Option<&Explanation>)
     let verdict = line.split(' ').next().unwrap_or_default();
     Json::Object(vec![
         ("version", version()),
-        ("file", input.name.as_str().into()),
+        ("file", input.file.as_str().into()),
         ("verdict", verdict.into()),
         ("report", line.as_str().into()),
         ("steps", Json::list(steps, |step| step.to_string().as_str().into())),

@@ -50,19 +50,35 @@ fn in_one_table(input: &Input, table: usize) -> Result<Checked, String> {
 }
 
 fn in_larger_tables(input: &Input, quiet: bool, start: Instant) -> Result<Checked, String> {
-    let (report, steps) = printing::report(&input.bytes)?;
-    let mut checked = Checked { report, steps, lent: Lent { table: printing::TABLE, index: 0 } };
+    let mut checked = in_first_table(input)?;
     // The first of the tables is the printing program's.
     for next in tables(&input.bytes, limit()).skip(1) {
         let Report::Full { count } = checked.report else {
             break;
         };
+        if available().is_some_and(|available| next.bytes() > available) {
+            break;
+        }
         if !quiet {
             tell(format!("order: {}", progress(input, count, checked.lent, next, start.elapsed())));
         }
         checked = check(input, next)?;
     }
     Ok(checked)
+}
+
+/// The printing program's report, which must be the library's in a table of the same length.
+fn in_first_table(input: &Input) -> Result<Checked, String> {
+    let (report, steps) = printing::report(&input.bytes)?;
+    let lent = Lent { table: printing::TABLE, index: 0 };
+    let expected = check(input, Lent::with_table(&input.bytes, printing::TABLE))?;
+    if (report, &steps) == (expected.report, &expected.steps) {
+        return Ok(Checked { report, steps, lent });
+    }
+    Err(format!(
+        "{}: the printing program reports {report}, and the library {} with as long a table: they are not of one build",
+        input.name, expected.report
+    ))
 }
 
 fn check(input: &Input, lent: Lent) -> Result<Checked, String> {
@@ -103,7 +119,7 @@ fn undecided(input: &Input, count: usize, lent: Lent) -> String {
 /// About four times as long, as `--table` takes it.
 fn longer(table: usize) -> String {
     const UNITS: [(char, usize); 3] = [('G', 1 << 30), ('M', 1 << 20), ('K', 1 << 10)];
-    let wanted = table.saturating_mul(4);
+    let wanted = table.max(1 << 10).saturating_mul(4);
     let (letter, unit) = UNITS.into_iter().find(|&(_, unit)| wanted >= unit).unwrap_or(('K', 1 << 10));
     format!("{}{letter}", wanted.div_ceil(unit))
 }

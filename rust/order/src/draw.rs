@@ -2,13 +2,21 @@
 
 use std::fs;
 
-use command::tell;
 use explain::Explanation;
+use models::Source;
 use page::{dot, Graph, Page};
+use program::Program;
 
 use crate::arguments::Task;
 use crate::decide::Decided;
 use crate::input::Input;
+
+/// What stands in for the model where the bytes are no program.
+static NOTHING: Source = Source {
+    program: Program { threads: Vec::new(), locations: 0, values: 0 },
+    locations: Vec::new(),
+    statements: Vec::new(),
+};
 
 /// Writes what the task asks for, and hands back what takes the report's place.
 pub fn draw(
@@ -18,12 +26,7 @@ pub fn draw(
     words: &str,
     task: &Task,
 ) -> Result<Option<String>, String> {
-    let Some(source) = &input.source else {
-        if task.draws() {
-            tell(format!("order: {}: no page and no graph of what is no program", input.name));
-        }
-        return Ok(None);
-    };
+    let source = input.source.as_ref().unwrap_or(&NOTHING);
     let graph = explanation.map(|it| Graph { execution: it.execution(), cycle: it.cycle() });
     let mut instead = None;
     if let Some(file) = &task.html {

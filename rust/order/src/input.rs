@@ -6,6 +6,8 @@ use program::encode;
 
 /// A model, or bytes that are no program.
 pub struct Input {
+    /// The file as it was named.
+    pub file: String,
     /// What messages call it.
     pub name: String,
     /// The text of the model; of program bytes their disassembly.
@@ -23,11 +25,12 @@ pub fn input(file: &str) -> Result<Input, String> {
     let name = name_of(file);
     let bytes = read(file).map_err(|message| format!("order: {message}"))?;
     if is_program(&bytes) {
-        return Ok(program(name, bytes));
+        return Ok(program(file, name, bytes));
     }
     let source = Source::of_text(&bytes).map_err(|mistake| format!("{name}:{mistake}"))?;
     Ok(Input {
-        name: name.into(),
+        file: file.into(),
+        name,
         bytes: encode(&source.program),
         text: String::from_utf8_lossy(&bytes).trim_start_matches('\u{feff}').into(),
         source: Some(source),
@@ -35,10 +38,10 @@ pub fn input(file: &str) -> Result<Input, String> {
     })
 }
 
-fn program(name: &str, bytes: Vec<u8>) -> Input {
+fn program(file: &str, name: String, bytes: Vec<u8>) -> Input {
     let text = models::disassemble(&bytes).unwrap_or_default();
     let source = Source::of_bytes(&bytes).ok();
-    Input { name: name.into(), text, bytes, source, is_text: false }
+    Input { file: file.into(), name, text, bytes, source, is_text: false }
 }
 
 /// Whether these are program bytes rather than a text: they start with the mark of a program and go on with what is no

@@ -16,7 +16,7 @@ mod words;
 use std::process::ExitCode;
 
 use arguments::{parse, Asked, Show, Task};
-use command::{arguments, name_of, tell, version, write_out, Unwritten, USAGE};
+use command::{arguments, tell, version, write_out, Unwritten, USAGE};
 use status::Status;
 
 const HELP: &str = include_str!("help.txt");
@@ -44,7 +44,7 @@ fn run(task: &Task) -> Result<Status, Unwritten> {
             Ok((text, status)) => written(&text).map(|()| status)?,
             Err(message) => {
                 if task.show == Show::Json {
-                    written(&format!("{}\n", data::error(name_of(file), &message)))?;
+                    written(&format!("{}\n", data::error(file, &message)))?;
                 }
                 tell(message);
                 Status::Failed

@@ -5,12 +5,17 @@ use std::fs;
 /// The most that tables with their indexes get by themselves: 1 GiB, or a quarter of the machine's memory.
 pub fn limit() -> usize {
     const MOST: usize = 1 << 30;
-    field("MemTotal").map_or(MOST, |total| MOST.min(total / 4))
+    [field("MemTotal"), group()].into_iter().flatten().fold(MOST, |least, total| least.min(total / 4))
 }
 
 /// What can be had now, where the system tells.
 pub fn available() -> Option<usize> {
     field("MemAvailable")
+}
+
+/// What the group of processes may have that this one is in, where that is bounded.
+fn group() -> Option<usize> {
+    fs::read_to_string("/sys/fs/cgroup/memory.max").ok()?.trim().parse().ok()
 }
 
 /// A field of what Linux says of its memory, in bytes.

@@ -4,6 +4,7 @@ use std::env;
 use std::io::{self, Write};
 use std::path::PathBuf;
 use std::process::{Command, Stdio};
+use std::thread;
 
 use answer::{report_in, Report, Step};
 
@@ -29,9 +30,12 @@ fn path() -> PathBuf {
 
 fn run(path: &PathBuf, input: &[u8]) -> io::Result<Vec<u8>> {
     let mut child = Command::new(path).stdin(Stdio::piped()).stdout(Stdio::piped()).spawn()?;
-    // It reads all before it writes, and what it writes fits into a pipe.
-    child.stdin.take().expect("it is piped").write_all(input)?;
-    let output = child.wait_with_output()?;
+    let mut stdin = child.stdin.take().expect("it is piped");
+    // Beside each other, in case it writes before it has read all. What it does not read shows in its report.
+    let output = thread::scope(|scope| {
+        scope.spawn(move || stdin.write_all(input));
+        child.wait_with_output()
+    })?;
     if output.status.success() {
         Ok(output.stdout)
     } else {

@@ -65,6 +65,18 @@ fn several_files_get_a_line_each_and_the_worst_status() {
 }
 
 #[test]
+fn a_name_is_one_line_whatever_is_in_it() {
+    let folder = folder("names");
+    let names = ["-x.order", "a b.order", "RB 3\nx: RB 1.order", "ä\u{7}.order"];
+    for name in names {
+        fs::copy(models().join("sb.order"), folder.join(name)).unwrap();
+    }
+    let output = finish(order().current_dir(&folder).arg("--").args(names), b"");
+    let shown = ["-x.order", "a b.order", "RB 3\\nx: RB 1.order", "ä\\u{7}.order"];
+    ends_quietly(&output, 10, &shown.map(|name| format!("{name}: NR 7 3 2 R 0 0\n")).concat());
+}
+
+#[test]
 fn an_expectation_is_met_or_not() {
     ends_quietly(&run(&["--expect", "mp.order"], b""), 0, "mp.order: RB 13, as expected\n");
     let lines = "sb.order: NR 7 3 2 R 0 0, as expected\nmp.order: RB 13, as expected\n";

@@ -44,9 +44,18 @@ fn nobody_who_reads_the_messages_changes_nothing() {
 }
 
 #[test]
+fn an_output_that_can_only_be_read_is_a_failure_with_a_message() {
+    for arguments in [&["mp.order"][..], &["--json", "mp.order"], &["--version"]] {
+        let (status, said) = into(order().args(arguments), File::open("/dev/null").unwrap());
+        assert_eq!(status, Some(1), "{arguments:?}");
+        assert!(said.starts_with("order: standard output: "), "{said}");
+    }
+}
+
+#[test]
 fn help_and_version_are_no_mistakes() {
     for option in ["--help", "-h"] {
-        let output = run(&["sb.order", option], b"");
+        let output = run(&[option], b"");
         let help = String::from_utf8(output.stdout.clone()).unwrap();
         assert!(
             help.starts_with("order: ") && help.contains("The exit status: 0 for RB, 10 for NR"),
@@ -56,6 +65,11 @@ fn help_and_version_are_no_mistakes() {
         ends_quietly(&output, 0, &help);
     }
     ends_quietly(&run(&["--version"], b""), 0, &format!("order {}\n", env!("CARGO_PKG_VERSION")));
+    // A file of that name must not get the status of RB.
+    for option in ["--help", "-h", "--version"] {
+        let said = ends(&run(&["sb.order", option], b""), 2, "");
+        assert_eq!(said, format!("order: {option} stands alone; see order --help\n"));
+    }
 }
 
 #[test]
@@ -67,6 +81,13 @@ fn a_wrong_command_line_is_2() {
         (&["sb.order", "--table"], "expected a size after --table"),
         (&["--table", "4T", "sb.order"], "expected a size such as 49152, 64K, 10M or 4G, found 4T"),
         (&["-", "-"], "standard input can be read once"),
+        (&["--table", "1", "--table=2", "sb.order"], "expected one --table"),
+        (&["--html", "a", "--html", "b", "sb.order"], "expected one --html"),
+        (&["--html", "sb.order", "mp.order"], "sb.order is a model, and would be written over"),
+        (
+            &["--dot", "../models/../models/README.md", "README.md"],
+            "../models/../models/README.md is a model, and would be written over",
+        ),
         (&["--json", "--expect", "sb.order"], "--explain, --json and --expect exclude each other"),
     ] {
         assert_eq!(ends(&run(arguments, b""), 2, ""), format!("order: {what}; see order --help\n"));

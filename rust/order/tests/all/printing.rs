@@ -2,15 +2,22 @@
 
 use std::fs;
 use std::os::unix::fs::PermissionsExt;
+use std::path::Path;
 
 use crate::user::{checker, ends, finish, folder, order, SB, SB_LINES};
 
 /// What `order` says where the printing program is this script.
-fn said_of(test: &str, script: &str) -> String {
+fn said(test: &str, script: &str) -> String {
     let program = folder(test).join("printing");
     fs::write(&program, format!("#!/bin/sh\n{script}\n")).unwrap();
     fs::set_permissions(&program, PermissionsExt::from_mode(0o755)).unwrap();
-    let said = ends(&finish(order().env("ORDER_CHECK", &program).arg("-"), SB), 1, "");
+    ends(&finish(order().env("ORDER_CHECK", &program).arg("-"), SB), 1, "")
+}
+
+/// The same, where it blames the printing program.
+fn said_of(test: &str, script: &str) -> String {
+    let said = said(test, script);
+    let program = Path::new(env!("CARGO_TARGET_TMPDIR")).join(test).join("printing");
     assert!(said.starts_with(&format!("order: {}: ", program.display())), "{said}");
     said
 }
@@ -35,6 +42,27 @@ fn a_program_that_fails_is_no_success() {
     let missing = folder("missing").join("none");
     let said = ends(&finish(order().env("ORDER_CHECK", &missing).arg("-"), SB), 1, "");
     assert!(said.starts_with(&format!("order: {}: ", missing.display())), "{said}");
+}
+
+#[test]
+fn a_report_that_is_not_the_library_s_is_no_success() {
+    for (test, lines) in [("lies", "RB 13"), ("lies-of-steps", &SB_LINES.trim_end().replace("ST 2", "ST 1"))]
+    {
+        let script = format!("cat >/dev/null; cat <<'END'\n{lines}\nEND");
+        let said = said(test, &script);
+        assert!(said.starts_with("order: standard input: the printing program reports "), "{said}");
+        assert!(
+            said.ends_with("the library NR 7 3 2 R 0 0 with as long a table: they are not of one build\n"),
+            "{said}"
+        );
+    }
+}
+
+#[test]
+fn a_program_that_writes_before_it_has_read_is_waited_for() {
+    let bytes = vec![0; 900_000];
+    let output = finish(order().env("ORDER_CHECK", "/bin/cat").arg("-"), &bytes);
+    assert!(ends(&output, 1, "").ends_with("it wrote no whole report\n"));
 }
 
 #[test]

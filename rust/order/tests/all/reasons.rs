@@ -143,6 +143,13 @@ fn a_page_that_can_not_be_written_is_a_failure() {
     ] {
         assert_eq!(ends(&run(arguments, b""), 2, ""), format!("order: {what}; see order --help\n"));
     }
-    let said = ends(&run(&["--html", "never", "-"], b"PR"), 1, "NO 1\n");
-    assert!(said.contains("no page"), "{said}");
+}
+
+#[test]
+fn what_is_no_program_leaves_no_older_page() {
+    let page = folder("no-program").join("page.html");
+    ends_quietly(&finish(order().arg("--html").arg(&page).arg("sb.order"), b""), 10, SB_LINES);
+    ends(&finish(order().arg("--html").arg(&page).arg("-"), b"PR"), 1, "NO 1\n");
+    let text = fs::read_to_string(&page).unwrap();
+    assert!(text.contains("No program") && !text.contains("Not robust"), "{text}");
 }

@@ -40,6 +40,7 @@ impl Tree {
             tree.copy(&checker(), "target/bin/order_check");
             tree.write("target/staticlib/liborder_check_c.a", "");
             tree.copy(Path::new(env!("CARGO_BIN_EXE_order")), "rust/target/release/order");
+            tree.write("rust/target/release/order_asm", "");
             for stamp in ["checker", "library", "command"] {
                 tree.write(&format!("target/order/{stamp}"), "");
             }
@@ -135,7 +136,7 @@ fn what_is_missing_is_built_crate_by_crate() {
         staticlib) echo 'rt: b proved (0 s)'; mkdir -p target/staticlib; echo > target/staticlib/liborder_check_c.a;;
       esac; echo noise; echo noise >&2";
     tree.tool("rt", rt);
-    tree.tool("cargo", "cat; mkdir -p rust/target/release; cp made/order rust/target/release/; echo noise");
+    tree.tool("cargo", "cat; mkdir -p rust/target/release; cp made/order rust/target/release/; echo > rust/target/release/order_asm; echo noise");
     let said = ends(&finish(&mut tree.shell("./order - < sb"), b""), 10, SB_LINES);
     let lines = [
         "proving and building the checker",
@@ -164,4 +165,28 @@ fn a_build_that_fails_or_is_broken_off_does_not_count() {
     }
     tree.tool("rt", "echo made");
     ends(&finish(&mut tree.shell("./order sb"), b""), 10, SB_LINES);
+}
+
+#[test]
+fn what_changes_while_it_is_built_is_built_again() {
+    let tree = Tree::new("changes", false);
+    tree.write("crates/a", "newer");
+    tree.tool("rt", "case $1 in check) echo changed > crates/a;; esac; echo \"$@\" >> calls");
+    ends(&finish(&mut tree.shell("./order sb"), b""), 10, SB_LINES);
+    tree.tool("rt", "echo \"$@\" >> calls");
+    ends(&finish(&mut tree.shell("./order sb"), b""), 10, SB_LINES);
+    ends_quietly(&finish(&mut tree.shell("./order sb"), b""), 10, SB_LINES);
+    let calls = fs::read_to_string(tree.root.join("calls")).unwrap();
+    assert_eq!(calls, "check order_check\nstaticlib order_check_c\ncheck order_check\n");
+}
+
+#[test]
+fn what_the_user_has_set_for_other_builds_is_not_meant_here() {
+    let tree = Tree::new("set", false);
+    tree.write("rust/Cargo.toml", "newer");
+    tree.tool("cargo", "echo \"$CARGO_TARGET_DIR$ORDER_STATICLIB$RUSTFLAGS\" > seen");
+    let mut shell = tree.shell("./order sb");
+    shell.env("CARGO_TARGET_DIR", "elsewhere").env("ORDER_STATICLIB", "mine").env("RUSTFLAGS", "-g");
+    ends(&finish(&mut shell, b""), 10, SB_LINES);
+    assert_eq!(fs::read_to_string(tree.root.join("seen")).unwrap(), "\n");
 }
