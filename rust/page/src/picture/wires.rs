@@ -3,7 +3,7 @@
 use std::collections::HashMap;
 
 use super::boxes::{Rect, GAP, STARTS_END};
-use super::frame::{Frame, LANE};
+use super::frame::{Frame, Span, LANE};
 use super::lanes::lanes;
 use super::path::Point;
 use super::ports::{Port, Ports, Side};
@@ -69,8 +69,8 @@ impl Wiring<'_> {
 
     /// Where a port below a starting write is: between two lanes.
     fn below(&self, port: &Port) -> i32 {
-        let along = self.ports.offset(port, self.frame.box_width);
-        self.frame.starts[port.event] + along / LANE * LANE + LANE / 2
+        let Span { left, width } = self.frame.span(self.drawing, port.event);
+        left + self.ports.offset(port, width) / LANE * LANE + LANE / 2
     }
 
     /// The way of each edge that is drawn.
