@@ -38,14 +38,13 @@ fn opening(picture: &Picture) -> String {
     let drawing = &picture.drawing;
     let (starts, threads) = (drawing.starts(), drawing.threads());
     let accesses = drawing.events().len() - starts;
-    let cycle = drawing.edges.iter().filter(|drawn| drawn.in_cycle);
-    let cycle: Vec<String> = cycle.map(|drawn| drawing.words.of_edge(drawn.edge, true)).collect();
+    let cycle: Vec<String> = picture.cycle.iter().map(|&edge| drawing.words.of_edge(edge, false)).collect();
     let tall = if height > TALL { " tall" } else { "" };
     format!(
         "<svg xmlns=\"http://www.w3.org/2000/svg\" class=\"graph{tall}\" role=\"graphics-document document\" \
          aria-label=\"Execution graph: {accesses} accesses in {threads} columns, one for each thread, below {starts} \
          starting writes\" viewBox=\"{x} {y} {width} {height}\" width=\"{width}\" height=\"{height}\">\n\
-         <desc>{}</desc>\n",
+         <desc>The cycle: {}</desc>\n",
         escaped(&cycle.join("; "))
     )
 }
