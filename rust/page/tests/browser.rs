@@ -93,7 +93,7 @@ fn is_shown(browser: &Path, reported: &Reported) {
     assert_eq!(shown, page::verdict(source, report), "{name}");
     let events = execution.as_ref().map_or(0, |execution| execution.events.len());
     for event in 0..events {
-        let start = format!("id=\"event-{event}\" role=\"img\">");
+        let start = format!("id=\"event-{event}\">");
         let drawn = between(&dom, &start, "</g>").unwrap_or_else(|| panic!("{name}: no box {event}"));
         for part in ["<title>", "<rect ", "class=\"access\"", "class=\"origin\""] {
             assert_eq!(drawn.matches(part).count(), 1, "{name}: {drawn}");
