@@ -22,8 +22,8 @@ pub fn head(report: &Report) -> &'static str {
 pub fn reason(source: &Source, report: &Report) -> String {
     match *report {
         Report::Robust { count } => format!(
-            "every release/acquire run ends in thread states and a graph that some SC run reaches too. It \
-             has {}, all searched.",
+            "every release/acquire run ends in thread states and a graph that some SC run reaches too. The \
+             model has {}, all searched.",
             situations(count)
         ),
         Report::NotRobust { steps, thread, kind, location, value, .. } => {
@@ -92,7 +92,7 @@ mod tests {
         says(
             Report::Robust { count: 13 },
             "Robust: every release/acquire run ends in thread states and a graph that some SC run reaches \
-             too. It has 13 situations, all searched.",
+             too. The model has 13 situations, all searched.",
         );
         says(
             Report::Full { count: 1 },
