@@ -6,7 +6,46 @@
  *
  *     cc caller.c target/staticlib/liborder_check_c.a
  *
- * README.md lists the checks by their numbers, and docs/LAYOUT.md has the bytes of a place.
+ * docs/FORMAT.md has the bytes of a program, the checks by their numbers and the bytes of a trace; docs/LAYOUT.md has
+ * the bytes of a place. A whole program that checks one and prints the answer:
+ *
+ *     #include <stdio.h>
+ *     #include <stdlib.h>
+ *     #include "order_check.h"
+ *
+ *     int main(void)
+ *     {
+ *         // Store buffering: x := 1; read y || y := 1; read x, with two values.
+ *         static const uint8_t program[] = {
+ *             'P', 'R', 2, 2, 2,
+ *             'T', 'H', 2, 'I', 'N', 5, 0, 0, 1, 0, 'I', 'N', 6, 0, 1, 0, 0,
+ *             'T', 'H', 2, 'I', 'N', 5, 0, 1, 1, 0, 'I', 'N', 6, 0, 0, 0, 0};
+ *         const size_t places = 100000;
+ *         const size_t table_len = places * ORDER_PLACE_SIZE(2, 2), trace_len = places * ORDER_STEP_BYTES;
+ *         uint8_t *table = malloc(table_len), *trace = malloc(trace_len);
+ *         uint64_t *index = malloc(2 * places * sizeof *index), answer[ORDER_FIELDS];
+ *         if (!table || !trace || !index)
+ *             return 2;
+ *         order_check_indexed(program, sizeof program, table, table_len, trace, trace_len, index, 2 * places, answer);
+ *         switch (answer[ORDER_VERDICT]) {
+ *         case ORDER_RB:
+ *             puts("robust: all accesses may be release and acquire");
+ *             return 0;
+ *         case ORDER_NR:
+ *             for (size_t step = 0; step < answer[ORDER_STEPS]; step++) {
+ *                 const uint8_t *at = trace + step * ORDER_STEP_BYTES;
+ *                 printf("thread %d: %c of %d at location %d\n", at[ORDER_STEP_THREAD], "LRWM"[at[ORDER_STEP_KIND]],
+ *                        at[ORDER_STEP_VALUE], at[ORDER_STEP_LOCATION]);
+ *             }
+ *             printf("not robust: then thread %d may use the old %d of location %d\n", (int)answer[ORDER_THREAD],
+ *                    (int)answer[ORDER_VALUE], (int)answer[ORDER_LOCATION]);
+ *             return 1;
+ *         default:
+ *             // ORDER_FU, ORDER_REFUSED, and what later versions may add: nothing is said about the program.
+ *             printf("not decided: check %d\n", (int)answer[ORDER_NUMBER]);
+ *             return 2;
+ *         }
+ *     }
  */
 #ifndef ORDER_CHECK_H
 #define ORDER_CHECK_H
@@ -17,6 +56,16 @@
 #ifdef __cplusplus
 extern "C" {
 #endif
+
+/* Raised by every version that changes what a caller sees. 1 had a byte a step; 2 has four, with the access. */
+#define ORDER_CHECK_VERSION 2
+
+/* The bytes of a place of the table, for T threads and L locations. */
+#define ORDER_PLACE_SIZE(T, L) \
+    (9 + (size_t)(T) * (6 + 4 * (size_t)(L)) + (size_t)(L) * (3 + 4 * (size_t)(L)))
+
+/* A call uses less stack than this, in bytes, whatever it is given. This is measured, not proved: it uses 7,000 or so. */
+#define ORDER_CHECK_STACK 16384
 
 /* The numbers of an answer, by their index. Every call writes all of them; what a verdict does not use is 0. */
 enum {
@@ -114,8 +163,8 @@ enum {
  *
  * table, table_len: where the search writes a place for each situation that it meets. There are table_len divided by
  *     the size of a place of them, at most 1,000,000,000; for T threads and L locations a place has
- *     9 + T * (6 + 4 * L) + L * (3 + 4 * L) bytes. Bytes past the places written stay as they are, and so do all where
- *     the bytes are no program.
+ *     ORDER_PLACE_SIZE(T, L) bytes (T and L are bytes 2 and 3 of the program, from 0). Bytes past the places written
+ *     stay as they are, and so do all where the bytes are no program.
  *
  * trace, trace_len: for ORDER_NR its first ORDER_STEP_BYTES * answer[ORDER_STEPS] bytes get the steps of the run, one
  *     after the other; its other bytes stay as they are, and for every other verdict all of them do. A trace of
@@ -126,7 +175,7 @@ enum {
  *
  * All memory is the caller's. The function allocates nothing, keeps no pointer and no other state after it returns,
  * and may run on several threads at once, each with memory of its own. What table, trace and answer held before
- * changes no answer.
+ * changes no answer. It needs ORDER_CHECK_STACK bytes of stack.
  *
  * No pointer may be null, also where its length is 0, and answer is aligned as uint64_t is. The four do not overlap,
  * and nothing else writes to them, or reads table, trace or answer, before the call returns.

@@ -11,17 +11,17 @@ pub enum Kind {
     Update,
 }
 
-/// The kinds from 1. In a trace 0 stands for no access.
-const KINDS: [Kind; 3] = [Kind::Read, Kind::Write, Kind::Update];
-
 impl Kind {
+    /// The kinds by their numbers, from 1. In a trace 0 stands for no access.
+    pub(crate) const ALL: [Kind; 3] = [Kind::Read, Kind::Write, Kind::Update];
+
     /// The kind of a number, if it is one.
     pub(crate) fn of(number: u64) -> Option<Kind> {
-        KINDS.into_iter().find(|kind| u64::from(kind.number()) == number)
+        Kind::ALL.into_iter().find(|kind| u64::from(kind.number()) == number)
     }
 
     /// The number of the kind.
     pub(crate) fn number(self) -> u8 {
-        1 + KINDS.iter().take_while(|&&other| other != self).count() as u8
+        1 + Kind::ALL.iter().take_while(|&&other| other != self).count() as u8
     }
 }

@@ -5,11 +5,13 @@
 
 mod kind;
 mod numbers;
+mod parse;
 mod report;
 mod step;
 mod text;
 
 pub use kind::Kind;
 pub use numbers::EightNumbers;
+pub use parse::report_in;
 pub use report::Report;
 pub use step::{steps_in, Access, Step};

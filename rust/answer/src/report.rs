@@ -2,7 +2,8 @@
 
 use crate::kind::Kind;
 
-/// The answer to a program in a lent table.
+/// The answer to a program in a lent table. Later versions may have further ones, and none of those says RB.
+#[non_exhaustive]
 #[derive(Clone, Copy, Debug, PartialEq, Eq)]
 pub enum Report {
     /// RB: the program is robust. Every release/acquire run of it, of any length, ends in thread states and an

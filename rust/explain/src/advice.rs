@@ -17,15 +17,16 @@ const VERDICTS: [(Verdict, &str, &str); 6] = [
     (Verdict::Untried, "not tried", ": enough others were"),
 ];
 
+const TITLE: &str =
+    "What would help, and what the checker says of the model with it (a fence is FADD of 0 on a \
+    location that only fences use):";
+
 impl Explanation {
-    /// The changes, each with what the checker says of the model with it.
+    /// The changes, each with what the checker says of the model with it, and of equal verdicts the smallest first.
     pub(crate) fn what_would_help(&self) -> String {
-        let trials = self.trials();
-        let mut text = wrapped(
-            "",
-            "What would help, and what the checker says of the model with it (a fence is FADD of 0 on a location that \
-             only fences use):",
-        );
+        let mut trials = self.trials();
+        trials.sort_by_key(|trial| self.places(trial).len());
+        let mut text = wrapped("", TITLE);
         for (verdict, word, more) in VERDICTS {
             for trial in trials.iter().filter(|trial| trial.verdict == verdict) {
                 text += &wrapped(&format!("  {word:10}  "), &(self.advice(trial) + more));
@@ -52,13 +53,18 @@ impl Explanation {
     }
 
     /// The changes of a trial, each line of the text once.
-    fn advice(&self, trial: &Trial) -> String {
+    fn places(&self, trial: &Trial) -> Vec<Change> {
         let mut places: Vec<Change> = Vec::new();
         for &change in &trial.changes {
             if !places.iter().any(|&other| self.line_of(other) == self.line_of(change)) {
                 places.push(change);
             }
         }
+        places
+    }
+
+    fn advice(&self, trial: &Trial) -> String {
+        let places = self.places(trial);
         match places[..] {
             [Change::Fence { thread, after, before }] => {
                 let [after, before] = [after, before].map(|line| self.line(thread, line));
@@ -96,7 +102,7 @@ impl Explanation {
     }
 
     /// The line of the text that a change is made in.
-    pub(crate) fn line_of(&self, change: Change) -> usize {
+    fn line_of(&self, change: Change) -> usize {
         match change {
             Change::Fence { thread, after: line, .. } | Change::Update { thread, line } => {
                 self.text_line(thread, line)

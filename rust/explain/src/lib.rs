@@ -1,5 +1,10 @@
 //! Why a program is not robust: the execution graph of the reported run and of the stale access that ends it, and a
 //! cycle in it, which no SC run has.
+//!
+//! [`Explanation::of`] takes the report of a checker; [`Explanation::words`] is for people and [`Explanation::json`] for
+//! programs. The graph is that of the reported run, replayed ([`Execution::of`]); the cycle is searched in it
+//! ([`Execution::cycle`]); and both are held to the definitions ([`flaw`], [`holds`], [`is_cycle`]) before anything is
+//! said of them. [`Help`] has changes of the program that would break the cycle, each with the checker's verdict.
 #![forbid(unsafe_code)]
 
 mod advice;

@@ -1,7 +1,7 @@
 //! A walk over the tokens of a text that says what it expected where it stops.
 
 use crate::lexer::{tokens, Piece, Token};
-use crate::mistake::Mistake;
+use crate::mistake::{Mistake, Place};
 use crate::source::Statement;
 
 /// The tokens from the next one on.
@@ -77,6 +77,14 @@ impl<'a> Cursor<'a> {
         Statement { line: token.place.line, text: rest.trim_end().into() }
     }
 
+    /// The pieces of the line of a text in which the place is: those before it, and those from it on.
+    pub fn line_at(&self, place: Place) -> [Vec<Piece<'a>>; 2] {
+        let first = self.tokens.partition_point(|token| token.place.line < place.line);
+        let line = self.tokens[first..].iter().take_while(|token| token.place.line == place.line);
+        let (before, rest): (Vec<_>, Vec<_>) = line.partition(|token| token.place.column < place.column);
+        [before, rest].map(|tokens: Vec<&Token>| tokens.into_iter().map(|token| token.piece).collect())
+    }
+
     /// The mistake that the next token is.
     pub fn mistake(&self, expected: impl Into<String>) -> Mistake {
         self.peek().mistake(expected)
@@ -86,6 +94,6 @@ impl<'a> Cursor<'a> {
 impl Token<'_> {
     /// The mistake that the token is where something else was expected.
     pub fn mistake(&self, expected: impl Into<String>) -> Mistake {
-        Mistake { place: self.place, expected: expected.into(), found: self.piece.to_string() }
+        Mistake { place: self.place, expected: expected.into(), found: self.piece.to_string(), hint: None }
     }
 }

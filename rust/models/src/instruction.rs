@@ -8,16 +8,17 @@ use program::{Line, Operand};
 use crate::cursor::Cursor;
 use crate::lexer::{Piece, Token};
 use crate::mistake::Mistake;
-use crate::names::{register, register_name};
+use crate::names::{register, register_name, with_names, Kind, Names};
 
-/// What the header says: the values and the names of the locations.
+/// What holds where a line stands: the number of values, and the names.
+#[derive(Clone, Default)]
 pub struct Scope<'a> {
     pub values: u8,
-    pub locations: Vec<&'a str>,
+    pub names: Names<'a>,
 }
 
 /// What a jump goes to.
-pub const A_LABEL: &str = "a label of this thread";
+const A_LABEL: &str = "a label of this thread";
 
 /// A line, but a jump still with its label, which may stand further down.
 pub enum Instruction<'a> {
@@ -31,19 +32,17 @@ impl<'a> Scope<'a> {
         if cursor.take_if("if") {
             let a = self.operand(cursor)?;
             cursor.expect("goto")?;
-            let label = cursor.peek();
-            if !matches!(label.piece, Piece::Word(_)) {
-                return Err(label.mistake(A_LABEL));
-            }
-            cursor.take();
-            return Ok(Instruction::Jump { a, label });
+            return jump(cursor, a);
+        }
+        if cursor.take_if("goto") {
+            return jump(cursor, Operand::Constant(1));
         }
         let line = if cursor.take_if("wait") {
             self.wait(cursor)?
         } else if cursor.take_if("BCAS") {
             let (location, a, b) = self.exchange(cursor)?;
             Line::Bcas { location, a, b }
-        } else if let Some(reg) = cursor.peek().register() {
+        } else if let Some(reg) = self.register_at(cursor) {
             cursor.take();
             cursor.expect(":=")?;
             self.assignment(cursor, reg)?
@@ -53,8 +52,8 @@ impl<'a> Scope<'a> {
             Line::Write { location, a: self.operand(cursor)? }
         } else {
             return Err(cursor.mistake(format!(
-                "a line that starts with {}, {}, 'if', 'wait' or 'BCAS'",
-                a_register(),
+                "a line that starts with {}, {}, 'if', 'goto', 'wait' or 'BCAS'",
+                self.a_register(),
                 self.a_location()
             )));
         };
@@ -80,7 +79,7 @@ impl<'a> Scope<'a> {
             return Ok(Line::Read { reg, location });
         }
         let a = self.operand_at(cursor).ok_or_else(|| {
-            let (value, register, location) = (self.a_value(), a_register(), self.a_location());
+            let (value, register, location) = (self.a_value(), self.a_register(), self.a_location());
             cursor.mistake(format!("{value}, {register}, {location}, 'FADD' or 'CAS'"))
         })?;
         cursor.take();
@@ -118,52 +117,96 @@ impl<'a> Scope<'a> {
     }
 
     fn operand(&self, cursor: &mut Cursor<'a>) -> Result<Operand, Mistake> {
-        let operand = self
-            .operand_at(cursor)
-            .ok_or_else(|| cursor.mistake(format!("{} or {}", self.a_value(), a_register())))?;
-        cursor.take();
-        Ok(operand)
+        let expected = || format!("{} or {}", self.a_value(), self.a_register());
+        self.taken(cursor, Scope::operand_at, expected)
     }
 
     fn location(&self, cursor: &mut Cursor<'a>) -> Result<u8, Mistake> {
-        let location = self.location_at(cursor).ok_or_else(|| cursor.mistake(self.a_location()))?;
+        self.taken(cursor, Scope::location_at, || self.a_location())
+    }
+
+    /// Passes a value, which must come next.
+    pub fn value(&self, cursor: &mut Cursor<'a>) -> Result<u8, Mistake> {
+        self.taken(cursor, Scope::value_at, || self.a_value())
+    }
+
+    /// Passes a register, which must come next.
+    pub fn register(&self, cursor: &mut Cursor<'a>) -> Result<u8, Mistake> {
+        self.taken(cursor, Scope::register_at, || self.a_register())
+    }
+
+    /// Passes what must come next, or says what was expected.
+    fn taken<T>(
+        &self,
+        cursor: &mut Cursor<'a>,
+        at: fn(&Self, &Cursor<'a>) -> Option<T>,
+        expected: impl Fn() -> String,
+    ) -> Result<T, Mistake> {
+        let found = at(self, cursor).ok_or_else(|| cursor.mistake(expected()))?;
         cursor.take();
-        Ok(location)
+        Ok(found)
     }
 
     fn operand_at(&self, cursor: &Cursor<'a>) -> Option<Operand> {
+        let constant = self.value_at(cursor).map(Operand::Constant);
+        constant.or(self.register_at(cursor).map(Operand::Register))
+    }
+
+    fn value_at(&self, cursor: &Cursor<'a>) -> Option<u8> {
         let token = cursor.peek();
-        let constant = token.number_in(&(0..=self.values - 1)).map(Operand::Constant);
-        constant.or(token.register().map(Operand::Register))
+        token.number_in(&(0..=self.values - 1)).or(self.names.find(Kind::Constant, token.piece))
+    }
+
+    fn register_at(&self, cursor: &Cursor<'a>) -> Option<u8> {
+        let piece = cursor.peek().piece;
+        let named = self.names.find(Kind::Register, piece);
+        named.or(if let Piece::Word(word) = piece { register(word) } else { None })
     }
 
     fn location_at(&self, cursor: &Cursor<'a>) -> Option<u8> {
-        let piece = cursor.peek().piece;
-        self.locations.iter().position(|name| piece == Piece::Word(name)).map(|found| found as u8)
+        self.names.find(Kind::Location, cursor.peek().piece)
     }
 
     fn a_value(&self) -> String {
-        format!("a value from 0 to {}", self.values - 1)
+        let values = format!("a value from 0 to {}", self.values - 1);
+        with_names(&values, &self.names.of_kind(Kind::Constant))
+    }
+
+    fn a_register(&self) -> String {
+        let numbered = all_registers();
+        let names = [vec![numbered.as_str()], self.names.of_kind(Kind::Register)].concat();
+        with_names("a register", &names)
     }
 
     fn a_location(&self) -> String {
-        format!("a location ({})", self.locations.join(", "))
+        with_names("a location", &self.names.of_kind(Kind::Location))
+    }
+
+    /// A label of the thread, all of whose labels are known.
+    pub fn a_label(&self) -> String {
+        match &self.names.of_kind(Kind::Label)[..] {
+            [] => format!("{A_LABEL}, which has none"),
+            names => with_names(A_LABEL, names),
+        }
     }
 }
 
-fn a_register() -> String {
-    format!("a register ({} to {})", register_name(0), register_name(REGISTERS - 1))
+/// `r0 to r3`
+pub fn all_registers() -> String {
+    format!("{} to {}", register_name(0), register_name(REGISTERS - 1))
+}
+
+/// What follows `goto`.
+fn jump<'a>(cursor: &mut Cursor<'a>, a: Operand) -> Result<Instruction<'a>, Mistake> {
+    let label = cursor.peek();
+    if !matches!(label.piece, Piece::Word(_)) {
+        return Err(label.mistake(A_LABEL));
+    }
+    cursor.take();
+    Ok(Instruction::Jump { a, label })
 }
 
 impl Token<'_> {
-    /// The register that it names, if it does.
-    fn register(&self) -> Option<u8> {
-        match self.piece {
-            Piece::Word(word) => register(word),
-            _ => None,
-        }
-    }
-
     /// The number that it is, if that is in the range.
     pub fn number_in(&self, range: &RangeInclusive<u8>) -> Option<u8> {
         match self.piece {

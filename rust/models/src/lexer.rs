@@ -2,6 +2,8 @@
 
 use std::fmt;
 
+use program::limits::LONGEST_INPUT;
+
 use crate::mistake::{Mistake, Place};
 
 /// A piece of a text.
@@ -40,11 +42,26 @@ pub struct Token<'a> {
     pub offset: usize,
 }
 
-/// The signs, a longer one before its own start.
-const SIGNS: &[&str] = &[":=", ":", "->", "+", "=", "<", "(", ")", ","];
+/// Where a text starts.
+const START: Place = Place { line: 1, column: 1 };
 
-/// The bytes as text.
+/// The signs, a longer one before its own start.
+const SIGNS: &[&str] = &[":=", ":", "->", "+", "=", "<", "(", ")", ",", "*"];
+
+/// What some editors put in front of a text in UTF-8; it is no part of the text.
+const BYTE_ORDER_MARK: &[u8] = "\u{feff}".as_bytes();
+
+/// The bytes as text. More of them than a model has are not looked at.
 pub fn text_of(bytes: &[u8]) -> Result<&str, Mistake> {
+    if bytes.len() > LONGEST_INPUT {
+        return Err(Mistake {
+            place: START,
+            expected: "a text of at most 1 MiB".into(),
+            found: format!("one of {} bytes", bytes.len()),
+            hint: None,
+        });
+    }
+    let bytes = bytes.strip_prefix(BYTE_ORDER_MARK).unwrap_or(bytes);
     std::str::from_utf8(bytes).map_err(|error| {
         let (good, bad) = bytes.split_at(error.valid_up_to());
         let last_line = good.rsplit(|&b| b == b'\n').next().unwrap_or_default();
@@ -55,6 +72,7 @@ pub fn text_of(bytes: &[u8]) -> Result<&str, Mistake> {
             },
             expected: "text in UTF-8".into(),
             found: format!("the byte {}", bad[0]),
+            hint: None,
         }
     })
 }
@@ -62,7 +80,7 @@ pub fn text_of(bytes: &[u8]) -> Result<&str, Mistake> {
 /// All tokens of the text; the last is the end of the file, and only that one is.
 pub fn tokens(text: &str) -> Vec<Token<'_>> {
     let mut tokens = Vec::new();
-    let mut place = Place { line: 1, column: 1 };
+    let mut place = START;
     let mut rest = text;
     while let Some(first) = rest.chars().next() {
         let (piece, length) = piece_at(rest, first);

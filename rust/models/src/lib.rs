@@ -7,10 +7,12 @@
 pub mod collection;
 mod cursor;
 mod disassemble;
+mod hints;
 mod instruction;
 mod lexer;
 mod mistake;
 mod names;
+mod nearest;
 mod parser;
 mod source;
 

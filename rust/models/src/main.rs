@@ -2,9 +2,9 @@
 #![forbid(unsafe_code)]
 
 use std::fs;
-use std::io::{self, Read, Write};
 use std::process::ExitCode;
 
+use command::{asked, name_of, read, tell, write_out, Unwritten, FAILED, USAGE};
 use models::{assemble, disassemble};
 
 const HELP: &str = "\
@@ -13,10 +13,12 @@ order_asm: the text form of a program to its bytes
     order_asm [FILE] [-o OUT]          assemble: text to bytes
     order_asm --dis [FILE] [-o OUT]    disassemble: bytes to text
     order_asm --help                   this text
+    order_asm --version                the version
 
 Without FILE, or with -, it reads standard input. Without -o it writes standard output.
 Where the input has a mistake, a message goes to standard error, nothing else is written,
-and the exit status is 1. It is 2 where the command line has one.
+and the exit status is 1. It is 2 where the command line has one. An input of more than
+1 MiB is refused.
 
 A model:
 
@@ -33,10 +35,16 @@ A model:
 The lines, for registers r0 to r3 and locations x: each 1 and 2 may be a value or a register.
 
     r0 := 1 + 2    r0 := 1 = 2    r0 := 1 < 2    r0 := 1 (short for 1 + 0)
-    again:         if 1 goto again
+    again:         if 1 goto again               goto again (short for if 1 goto again)
     x := 1         r0 := x
     r0 := FADD(x, 1)              r0 := CAS(x, 1 -> 2)
     wait(x = 1)                   BCAS(x, 1 -> 2)
+
+'thread * 3' is three equal threads. Names for values and registers stand before or after
+the locations, or before the first line of a thread and then hold there:
+
+    constants empty = 0 full = 1
+    registers mine = r0 other = r1
 ";
 
 /// What the command line asks for.
@@ -50,29 +58,23 @@ struct Task {
 const STANDARD_INPUT: &str = "-";
 
 fn main() -> ExitCode {
-    let arguments: Vec<String> =
-        match std::env::args_os().skip(1).map(|argument| argument.into_string()).collect() {
-            Ok(arguments) => arguments,
-            Err(argument) => {
-                eprintln!("order_asm: {} is not valid UTF-8", argument.to_string_lossy());
-                return ExitCode::from(2);
-            }
-        };
-    let outcome = if arguments.iter().any(|argument| argument == "--help" || argument == "-h") {
-        write_all(None, HELP.as_bytes()).map_err(|message| (message, 1))
-    } else {
-        match task(arguments) {
-            Ok(task) => run(&task).map_err(|message| (message, 1)),
-            Err(message) => Err((format!("order_asm: {message}; see order_asm --help"), 2)),
-        }
-    };
-    match outcome {
-        Ok(()) => ExitCode::SUCCESS,
-        Err((message, status)) => {
-            eprintln!("{message}");
-            ExitCode::from(status)
-        }
+    match asked("order_asm", HELP.trim_end()) {
+        Ok(arguments) => act(arguments),
+        Err(status) => status,
     }
+}
+
+fn act(arguments: Vec<String>) -> ExitCode {
+    let (message, status) = match task(arguments) {
+        Err(message) => (Some(format!("order_asm: {message}; see order_asm --help")), USAGE),
+        Ok(task) => match translated(&task).map(|output| written(&task, &output)) {
+            Ok(Ok(())) => return ExitCode::SUCCESS,
+            Ok(Err(Unwritten::ReaderGone)) => (None, FAILED),
+            Ok(Err(Unwritten::Failed(message))) | Err(message) => (Some(message), FAILED),
+        },
+    };
+    message.iter().for_each(tell);
+    ExitCode::from(status)
 }
 
 fn task(arguments: Vec<String>) -> Result<Task, String> {
@@ -97,34 +99,22 @@ fn task(arguments: Vec<String>) -> Result<Task, String> {
     Ok(Task { disassemble, input: input.unwrap_or(STANDARD_INPUT.into()), output })
 }
 
-/// Reads, translates, and only then writes, so that a mistake leaves no output.
-fn run(task: &Task) -> Result<(), String> {
-    let name = if task.input == STANDARD_INPUT { "standard input" } else { &task.input };
-    let input = read_all(&task.input).map_err(|error| format!("{name}: {error}"))?;
-    let output = if task.disassemble {
+/// The output for all of the input: it is written only after this, so that a mistake leaves none.
+fn translated(task: &Task) -> Result<Vec<u8>, String> {
+    let name = name_of(&task.input);
+    let input = read(&task.input)?;
+    if task.disassemble {
         let refused = |number| format!("{name}: not a program: check {number} of document 01 fails");
-        disassemble(&input).map_err(refused)?.into_bytes()
+        Ok(disassemble(&input).map_err(refused)?.into_bytes())
     } else {
-        assemble(&input).map_err(|mistake| format!("{name}:{mistake}"))?
-    };
-    write_all(task.output.as_deref(), &output)
+        assemble(&input).map_err(|mistake| format!("{name}:{mistake}"))
+    }
 }
 
 /// Writes the file, or standard output where none is named.
-fn write_all(file: Option<&str>, output: &[u8]) -> Result<(), String> {
-    let written = match file {
-        Some(file) => fs::write(file, output),
-        None => io::stdout().write_all(output).and_then(|()| io::stdout().flush()),
-    };
-    written.map_err(|error| format!("{}: {error}", file.unwrap_or("standard output")))
-}
-
-fn read_all(name: &str) -> io::Result<Vec<u8>> {
-    if name == STANDARD_INPUT {
-        let mut bytes = Vec::new();
-        io::stdin().read_to_end(&mut bytes)?;
-        Ok(bytes)
-    } else {
-        fs::read(name)
+fn written(task: &Task, output: &[u8]) -> Result<(), Unwritten> {
+    match &task.output {
+        Some(file) => fs::write(file, output).map_err(|error| Unwritten::Failed(format!("{file}: {error}"))),
+        None => write_out(output),
     }
 }

@@ -17,7 +17,8 @@ impl fmt::Display for Place {
     }
 }
 
-/// A mistake in a model: what was expected at a place, and what was found there.
+/// A mistake in a model: what was expected at a place, and what was found there. It is shown on one line, and a hint on
+/// a second one.
 #[derive(Clone, Debug, PartialEq, Eq)]
 pub struct Mistake {
     /// Where the text goes wrong.
@@ -26,10 +27,13 @@ pub struct Mistake {
     pub expected: String,
     /// What stands there.
     pub found: String,
+    /// What may help, where what stands there is nearly right.
+    pub hint: Option<String>,
 }
 
 impl fmt::Display for Mistake {
     fn fmt(&self, f: &mut fmt::Formatter) -> fmt::Result {
-        write!(f, "{}: expected {}, found {}", self.place, self.expected, self.found)
+        write!(f, "{}: expected {}, found {}", self.place, self.expected, self.found)?;
+        self.hint.iter().try_for_each(|hint| write!(f, "\n  hint: {hint}"))
     }
 }

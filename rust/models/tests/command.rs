@@ -2,8 +2,11 @@
 #![forbid(unsafe_code)]
 
 use std::fs;
+use std::io::Write;
 use std::path::{Path, PathBuf};
-use std::process::Output;
+use std::process::{Command, Output, Stdio};
+
+use program::limits::LONGEST_INPUT;
 
 const SB: &str = "values 2\nlocations x y\nthread\n  x := 1\n  r0 := y\nthread\n  y := 1\n  r0 := x\n";
 const SB_BYTES: &[u8] = b"PR\x02\x02\x02TH\x02IN\x05\x00\x00\x01\x00IN\x06\x00\x01\x00\x00\
@@ -104,6 +107,70 @@ fn a_file_that_is_not_there_is_named() {
 }
 
 #[test]
+fn a_directory_is_no_model() {
+    let output = run("directory", &["."], b"");
+    assert_eq!(output.status.code(), Some(1));
+    assert!(String::from_utf8_lossy(&output.stderr).starts_with(".: "));
+}
+
+#[test]
+fn an_input_of_more_than_1_mib_is_refused() {
+    let test = "long";
+    let message = |name: &str| format!("{name}: longer than 1 MiB, which no model is\n");
+    let zeros = vec![0; 2 << 20];
+    fs::write(directory(test).join("zeros"), &zeros).unwrap();
+    bad(&run(test, &["zeros"], b""), 1, &message("zeros"));
+    bad(&run(test, &["--dis", "zeros"], b""), 1, &message("zeros"));
+    bad(&run(test, &[], &zeros), 1, &message("standard input"));
+    // One byte decides.
+    let model = [SB.as_bytes(), &vec![b' '; LONGEST_INPUT - SB.len()]].concat();
+    good(&run(test, &[], &model), SB_BYTES);
+    bad(&run(test, &[], &[&model[..], b" "].concat()), 1, &message("standard input"));
+}
+
+/// The first bytes decide: a command that read to the end would not come back.
+#[cfg(unix)]
+#[test]
+fn an_input_without_end_is_refused_at_once() {
+    let message = "/dev/zero: longer than 1 MiB, which no model is\n";
+    bad(&run("endless", &["/dev/zero"], b""), 1, message);
+    bad(&run("endless", &["--dis", "/dev/zero"], b""), 1, message);
+}
+
+#[cfg(unix)]
+#[test]
+fn a_reader_who_goes_away_is_no_mistake() {
+    for (arguments, input) in [([].as_slice(), SB.as_bytes()), (&["--dis"], SB_BYTES)] {
+        let mut child = Command::new(env!("CARGO_BIN_EXE_order_asm"))
+            .args(arguments)
+            .stdin(Stdio::piped())
+            .stdout(Stdio::piped())
+            .stderr(Stdio::piped())
+            .spawn()
+            .unwrap();
+        // It writes only after it has read all, so nobody reads it any more by then.
+        drop(child.stdout.take());
+        child.stdin.take().unwrap().write_all(input).unwrap();
+        let output = child.wait_with_output().unwrap();
+        assert_eq!(String::from_utf8_lossy(&output.stderr), "");
+        assert_eq!(output.status.code(), Some(1));
+    }
+}
+
+#[test]
+fn it_says_its_version() {
+    let version = format!("order_asm {}\n", env!("CARGO_PKG_VERSION"));
+    good(&run("version", &["--version"], b""), version.as_bytes());
+}
+
+#[test]
+fn a_hint_stands_on_the_line_after_the_message() {
+    let text = SB.replace("r0 := x", "r0 = x");
+    let message = "standard input:8:6: expected ':=', found '='\n  hint: ':=' assigns, '=' compares\n";
+    bad(&run("hint", &[], text.as_bytes()), 1, message);
+}
+
+#[test]
 fn a_command_line_that_says_nothing_known_is_2() {
     let message = |what: &str| format!("order_asm: {what}; see order_asm --help\n");
     let found = message("expected --dis, -o or a file name, found --das");
@@ -122,4 +189,9 @@ fn help_shows_a_model_that_assembles() {
     let end = help.find("The lines").expect("text after it");
     good(&run("help", &[], &help.as_bytes()[start..end]), SB_BYTES);
     assert_eq!(run("help", &["-h"], b"").stdout, help.as_bytes());
+    // Every short form that it names is one.
+    let lines =
+        ["goto again", "'thread * 3'", "constants empty = 0 full = 1", "registers mine = r0 other = r1"];
+    assert!(lines.iter().all(|line| help.contains(line)));
+    assert!(help.lines().all(|line| line.chars().count() < 96));
 }

@@ -1,13 +1,16 @@
 //! What the assembler says of a model with a mistake: the place, what was expected and what was found.
 #![forbid(unsafe_code)]
 
-use models::assemble;
+use std::time::{Duration, Instant};
 
-/// The message, with line and column in front.
+use models::{assemble, Mistake};
+use program::limits::LONGEST_INPUT;
+
+/// The message, with line and column in front and without a hint: `hints.rs` is about these.
 fn message(text: &str) -> String {
     match assemble(text.as_bytes()) {
         Ok(bytes) => panic!("{text}\nwas assembled to {bytes:?}"),
-        Err(mistake) => mistake.to_string(),
+        Err(mistake) => Mistake { hint: None, ..mistake }.to_string(),
     }
 }
 
@@ -24,7 +27,7 @@ fn expect_line(line: &str, expected: &str) {
 
 const OPERAND: &str = "a value from 0 to 2 or a register (r0 to r3)";
 const START: &str =
-    "a line that starts with a register (r0 to r3), a location (x, y), 'if', 'wait' or 'BCAS'";
+    "a line that starts with a register (r0 to r3), a location (x, y), 'if', 'goto', 'wait' or 'BCAS'";
 
 #[test]
 fn a_header_comes_first() {
@@ -57,7 +60,10 @@ fn locations_are_1_to_8_new_names() {
     expect(&header(""), "2:10: expected a name for a location, found the end of the line");
     expect(&header(" 7"), "2:11: expected a name for a location, found '7'");
     expect(&header(" x, y"), "2:12: expected the end of the line, found ','");
-    expect(&header(" x y x"), "2:15: expected a name for a location, found 'x', the name of a location");
+    expect(
+        &header(" x y x"),
+        "2:15: expected a name for a location, found 'x', the name of a location on line 2",
+    );
     expect(&header(" x goto"), "2:13: expected a name for a location, found 'goto', a word of the language");
     expect(&header(" x r0"), "2:13: expected a name for a location, found 'r0', kept for registers");
     expect(&header(" r17"), "2:11: expected a name for a location, found 'r17', kept for registers");
@@ -88,7 +94,6 @@ fn a_line_starts_with_a_register_a_location_or_a_word() {
         ("r00 := 1", "'r00'"),
         ("1 := x", "'1'"),
         (":= x", "':='"),
-        ("goto x", "'goto'"),
         ("CAS(x, 0 -> 1)", "'CAS'"),
         ("FADD(x, 1)", "'FADD'"),
         ("values 3", "'values'"),
@@ -148,20 +153,32 @@ fn accesses_with_brackets() {
 #[test]
 fn jumps_and_labels() {
     let label = "a label of this thread";
-    expect_line("if r0 goto again", &format!("4:12: expected {label}, found 'again'"));
+    expect_line("if r0 goto again", &format!("4:12: expected {label}, which has none, found 'again'"));
+    expect_line("goto x", &format!("4:6: expected {label}, which has none, found 'x'"));
+    expect_line("b: goto c\na:", &format!("4:9: expected {label} (b, a), found 'c'"));
+    expect_line("goto", &format!("4:5: expected {label}, found the end of the line"));
     expect_line("if r0 goto 3", &format!("4:12: expected {label}, found '3'"));
     expect_line("if r0 goto\n x := 1", &format!("4:11: expected {label}, found the end of the line"));
     expect_line("if r0 goto again again", "4:18: expected the end of the line, found 'again'");
     expect_line("if r0 again", "4:7: expected 'goto', found 'again'");
     expect_line("if x goto again", &format!("4:4: expected {OPERAND}, found 'x'"));
     expect_line("if r0 < 2 goto again", "4:7: expected 'goto', found '<'");
-    expect_line("a: if 1 goto b\nthread\nb:", &format!("4:14: expected {label}, found 'b'"));
+    expect_line("a: if 1 goto b\nthread\nb:", &format!("4:14: expected {label} (a), found 'b'"));
     let name = "expected a name for a label, found";
-    expect_line("a:\n x := 1\n a:", &format!("6:2: {name} 'a', the name of a label"));
-    expect_line("a: x:", &format!("4:4: {name} 'x', the name of a location"));
+    expect_line("a:\n x := 1\n a:", &format!("6:2: {name} 'a', the name of a label on line 4"));
+    expect_line("a: x:", &format!("4:4: {name} 'x', the name of a location on line 2"));
     expect_line("if:", &format!("4:1: {name} 'if', a word of the language"));
     expect_line("r9:", &format!("4:1: {name} 'r9', kept for registers"));
     expect_line("7:", &format!("4:1: expected {START}, found '7'"));
+}
+
+#[test]
+fn a_long_list_of_labels_is_cut() {
+    let labels: Vec<_> = (0..13).map(|number| format!("L{number}")).collect();
+    let shown = format!("({}, ..)", labels[..12].join(", "));
+    let line = format!("{}: goto end", labels.join(": "));
+    let column = line.chars().count() - 2;
+    expect_line(&line, &format!("4:{column}: expected a label of this thread {shown}, found 'end'"));
 }
 
 #[test]
@@ -175,6 +192,37 @@ fn places_count_characters() {
 fn a_text_is_utf_8() {
     let mistake = |bytes: &[u8]| assemble(bytes).map_err(|mistake| mistake.to_string());
     assert_eq!(mistake(b"\xff"), Err("1:1: expected text in UTF-8, found the byte 255".into()));
+    let marked = [b"\xef\xbb\xbf# \xff".as_slice()].concat();
+    assert_eq!(mistake(&marked), Err("1:3: expected text in UTF-8, found the byte 255".into()));
     let late = "values 2\n# ä".bytes().chain([0xc3]).collect::<Vec<_>>();
     assert_eq!(mistake(&late), Err("2:4: expected text in UTF-8, found the byte 195".into()));
+}
+
+#[test]
+fn a_byte_order_mark_in_front_is_no_part_of_the_text() {
+    let text = "values 2\nlocations x\nthread\nx := 1\n";
+    let marked = format!("\u{feff}{text}");
+    assert_eq!(assemble(marked.as_bytes()), assemble(text.as_bytes()));
+    expect("\u{feff}  thread", "1:3: expected 'values', found 'thread'");
+    expect("\u{feff}\u{feff}", "1:1: expected 'values', found '\\u{feff}'");
+}
+
+#[test]
+fn a_text_has_at_most_1_mib() {
+    let model = "values 2\nlocations x\nthread\n#";
+    let text = |length: usize| format!("{model}{}", " ".repeat(length - model.len()));
+    assert!(assemble(text(LONGEST_INPUT).as_bytes()).is_ok());
+    expect(&text(LONGEST_INPUT + 1), "1:1: expected a text of at most 1 MiB, found one of 1048577 bytes");
+}
+
+/// Names are found without going through all of them, which would take much longer than this.
+#[test]
+fn a_text_of_nothing_but_labels_is_read_at_once() {
+    let start = Instant::now();
+    let labels: String = (0..120_000).map(|number| format!("L{number}:")).collect();
+    assert!(labels.len() > LONGEST_INPUT / 2);
+    assert!(assemble(format!("values 2\nlocations x\nthread\n{labels}\n goto L119999").as_bytes()).is_ok());
+    let text = format!("values 2\nlocations x\nthread\n{labels}\n goto M119999");
+    assert!(message(&text).ends_with("L11, ..), found 'M119999'"));
+    assert!(start.elapsed() < Duration::from_secs(10));
 }

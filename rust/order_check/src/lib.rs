@@ -32,7 +32,11 @@
 //! ```
 #![deny(unsafe_code)]
 
+mod grow;
+
 pub use answer::{steps_in, Access, EightNumbers, Kind, Report, Step};
+pub use grow::{check_growing, check_in, tables, Checked, Lent, NoMemory};
+pub use program::place_size;
 
 /// Checks program bytes in the lent table.
 ///

@@ -127,6 +127,10 @@ int main(void)
     const uint8_t steps[] = {1, ORDER_WRITE, 0, 1, 1, ORDER_READ, 1, 0, 2, ORDER_WRITE, 1, 1, 9};
     const uint8_t unchanged[] = {9, 9, 9, 9, 9, 9, 9, 9, 9, 9, 9, 9, 9};
 
+    if (ORDER_PLACE_SIZE(1, 1) != 26 || ORDER_PLACE_SIZE(2, 1 + 1) != 59 || ORDER_PLACE_SIZE(8, 8) != 593) {
+        failures++;
+        printf("ORDER_PLACE_SIZE is wrong\n");
+    }
     expect("SB", sb, sizeof sb, 413, sizeof trace, not_robust);
     expect_trace("SB", steps);
     expect("SB in a shorter table", sb, sizeof sb, 412, sizeof trace, full);

@@ -15,6 +15,7 @@ pub fn head(report: &Report) -> &'static str {
         Report::NotRobust { .. } | Report::Short { .. } => "Not robust",
         Report::Full { .. } => "Undecided",
         Report::Refused { .. } => "No program",
+        _ => "Not said to be robust",
     }
 }
 
@@ -39,6 +40,7 @@ pub fn reason(source: &Source, report: &Report) -> String {
             situations(count)
         ),
         Report::Refused { number } => format!("check {number} of the input failed first."),
+        _ => format!("{report}."),
     }
 }
 

@@ -43,6 +43,7 @@ fn every_model_has_its_verdict() {
             Report::Robust { .. } => Some(Verdict::Robust),
             Report::NotRobust { .. } => Some(Verdict::NotRobust),
             Report::Full { .. } | Report::Short { .. } | Report::Refused { .. } => None,
+            other => panic!("{}: {other}", model.name),
         };
         assert_eq!(found, Some(model.expected), "{}", model.name);
     }

@@ -16,3 +16,7 @@ pub const LINES: RangeInclusive<u8> = 0..=64;
 
 /// "reg is 0 to 3": the number of registers.
 pub const REGISTERS: u8 = 4;
+
+/// The most bytes that commands take for a program or its text: 1 MiB. A program has at most 3,613, and its text hardly
+/// more than ten times as many without comments.
+pub const LONGEST_INPUT: usize = 1 << 20;

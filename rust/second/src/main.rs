@@ -1,7 +1,7 @@
 //! The command `second`: what document 01's printing program prints for the program bytes on standard input.
 #![forbid(unsafe_code)]
 
-use std::io::{self, Read, Write};
+use std::io::{self, ErrorKind, Read, Write};
 use std::process::ExitCode;
 
 use second::{check, PRINTING};
@@ -10,14 +10,24 @@ const USAGE: &str =
     "usage: second [TABLE [TRACE]] < PROGRAM   (lengths in bytes, 49152 and 8192 if not given)";
 
 fn main() -> ExitCode {
-    let Some([table, trace]) = lengths() else {
-        eprintln!("{USAGE}");
-        return ExitCode::from(2);
+    let done = match std::env::args().nth(1).as_deref() {
+        Some("--version") => write(&format!("second {}\n", env!("CARGO_PKG_VERSION"))),
+        Some("--help" | "-h") => write(&format!("{USAGE}\n")),
+        _ => match lengths() {
+            Some([table, trace]) => run(table, trace),
+            None => {
+                eprintln!("{USAGE}");
+                return ExitCode::from(2);
+            }
+        },
     };
-    match run(table, trace) {
+    match done {
         Ok(()) => ExitCode::SUCCESS,
         Err(error) => {
-            eprintln!("second: {error}");
+            // A reader that went away does not want to know.
+            if error.kind() != ErrorKind::BrokenPipe {
+                eprintln!("second: {error}");
+            }
             ExitCode::FAILURE
         }
     }
@@ -26,7 +36,11 @@ fn main() -> ExitCode {
 fn run(table: usize, trace: usize) -> io::Result<()> {
     let mut bytes = Vec::new();
     io::stdin().read_to_end(&mut bytes)?;
-    io::stdout().write_all(check(&bytes, table, trace).to_string().as_bytes())
+    write(&check(&bytes, table, trace).to_string())
+}
+
+fn write(text: &str) -> io::Result<()> {
+    io::stdout().write_all(text.as_bytes()).and_then(|()| io::stdout().flush())
 }
 
 /// The lengths that the command line gives, in place of those of document 01.

@@ -72,3 +72,10 @@ fn other_lengths_are_arguments() {
         assert!(String::from_utf8_lossy(&output.stderr).starts_with("usage: second"));
     }
 }
+
+#[test]
+fn it_tells_its_version_and_how_it_is_used() {
+    prints(&["--version"], b"", &format!("second {}\n", env!("CARGO_PKG_VERSION")));
+    let output = run(&["--help"], b"");
+    assert!(output.stdout.starts_with(b"usage: second ") && output.status.success());
+}

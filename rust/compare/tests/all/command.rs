@@ -1,6 +1,7 @@
-//! The command `order_read`.
+//! The commands `order_read` and `order_compare`.
 
-use std::process::Output;
+use std::io::pipe;
+use std::process::{Command, Output, Stdio};
 
 fn run(arguments: &[&str], input: &[u8]) -> Output {
     run::run(env!("CARGO_BIN_EXE_order_read"), arguments, input)
@@ -40,4 +41,32 @@ fn takes_one_file() {
     assert_eq!(printed(&output), "");
     assert!(String::from_utf8_lossy(&output.stderr).contains("usage"));
     assert_eq!(output.status.code(), Some(2));
+}
+
+#[test]
+fn each_command_has_help_and_a_version() {
+    for (name, command) in [
+        ("order_read", env!("CARGO_BIN_EXE_order_read")),
+        ("order_compare", env!("CARGO_BIN_EXE_order_compare")),
+    ] {
+        let output = run::run(command, &["--version"], b"");
+        assert_eq!(printed(&output), format!("{name} {}\n", env!("CARGO_PKG_VERSION")));
+        assert_eq!(output.status.code(), Some(0));
+        let output = run::run(command, &["--help"], b"");
+        assert!(printed(&output).starts_with(&format!("usage: {name} [")), "{}", printed(&output));
+        assert_eq!(output.status.code(), Some(0));
+    }
+}
+
+#[test]
+fn a_reader_that_goes_away_is_quiet_and_an_endless_input_ends() {
+    let (reader, writer) = pipe().unwrap();
+    drop(reader);
+    let mut command = Command::new(env!("CARGO_BIN_EXE_order_read"));
+    let child = command.stdin(Stdio::null()).stdout(writer).stderr(Stdio::piped()).spawn().unwrap();
+    let output = child.wait_with_output().unwrap();
+    assert_eq!((output.status.code(), output.stderr), (Some(1), vec![]));
+    let output = run(&["/dev/zero"], b"");
+    assert_eq!(output.stderr, b"order_read: /dev/zero: longer than 1 MiB, which no model is\n");
+    assert_eq!(output.status.code(), Some(1));
 }

@@ -48,6 +48,21 @@ fn the_fences_of_more_cycles_are_added() {
     assert_eq!(*enough, Trial { changes: four.to_vec(), verdict: Verdict::Robust });
 }
 
+/// The cycle goes through three threads, and a fence in the first and in one of the others breaks it.
+#[test]
+fn a_fence_that_is_not_needed_is_left_out() {
+    let text = "values 2\nlocations x y z\nthread\nx := 1\nr0 := y\nthread\ny := 1\nz := 1\n\
+        thread\nr0 := z\nr1 := x\n";
+    let explanation = explained(&of_source("three", source(text)).unwrap());
+    let Help { fences, enough, .. } = explanation.help();
+    let all = vec![fence(0, 0), fence(1, 0), fence(2, 0)];
+    assert_eq!(fences.last(), Some(&Trial { changes: all, verdict: Verdict::Robust }));
+    assert_eq!(*enough, Trial { changes: vec![fence(0, 0), fence(2, 0)], verdict: Verdict::Robust });
+    let words = explanation.words(false);
+    let best = "  robust      fences after lines 4 and 10\n  robust      fences after lines 4, 7 and 10\n";
+    assert!(words.contains(best), "{words}");
+}
+
 #[test]
 fn every_verdict_on_the_models_is_the_checkers() {
     for reported in models_not_robust() {

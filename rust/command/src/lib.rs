@@ -1,0 +1,110 @@
+//! What the commands share: arguments, output and how they end.
+#![forbid(unsafe_code)]
+
+use std::fmt::Display;
+use std::fs::File;
+use std::io::{self, ErrorKind, Read, Write};
+use std::process::{exit, ExitCode};
+
+use program::limits::LONGEST_INPUT;
+
+/// The status of a failed read or write, or of an input with a mistake.
+pub const FAILED: u8 = 1;
+
+/// The status of a command line that says nothing known.
+pub const USAGE: u8 = 2;
+
+/// The arguments after the command's name, or what is wrong with the first that is no text.
+pub fn arguments() -> Result<Vec<String>, String> {
+    let text = |argument: std::ffi::OsString| {
+        argument.into_string().map_err(|it| format!("{} is not valid UTF-8", it.to_string_lossy()))
+    };
+    std::env::args_os().skip(1).map(text).collect()
+}
+
+/// The arguments of a command that knows `--help`, `-h` and `--version` beside them; the status to end with where one of
+/// these was given and answered, or an argument is no text.
+pub fn asked(command: &str, usage: &str) -> Result<Vec<String>, ExitCode> {
+    let arguments = arguments().map_err(|message| {
+        tell(format!("{command}: {message}"));
+        ExitCode::from(USAGE)
+    })?;
+    let is_given = |option| arguments.iter().any(|argument| argument == option);
+    if is_given("--help") || is_given("-h") {
+        print(command, usage);
+    } else if is_given("--version") {
+        print(command, version(command).trim_end());
+    } else {
+        return Ok(arguments);
+    }
+    Err(ExitCode::SUCCESS)
+}
+
+/// The line that `--version` prints. The middle number is that of the C header `order_check.h`.
+pub fn version(command: &str) -> String {
+    format!("{command} {}\n", env!("CARGO_PKG_VERSION"))
+}
+
+/// What the name `-` stands for.
+const STANDARD_INPUT: &str = "standard input";
+
+/// What messages call a file.
+pub fn name_of(file: &str) -> &str {
+    if file == "-" {
+        STANDARD_INPUT
+    } else {
+        file
+    }
+}
+
+/// What the file holds, or standard input for `-`; or why that can't be told. An input that is too long is not read to
+/// its end.
+pub fn read(file: &str) -> Result<Vec<u8>, String> {
+    let bytes = match file {
+        "-" => up_to_longest(io::stdin().lock()),
+        _ => File::open(file).and_then(up_to_longest),
+    };
+    bytes.map_err(|error| format!("{}: {error}", name_of(file)))
+}
+
+fn up_to_longest(from: impl Read) -> io::Result<Vec<u8>> {
+    let mut bytes = Vec::new();
+    from.take(LONGEST_INPUT as u64 + 1).read_to_end(&mut bytes)?;
+    if bytes.len() > LONGEST_INPUT {
+        return Err(io::Error::other("longer than 1 MiB, which no model is"));
+    }
+    Ok(bytes)
+}
+
+/// Why standard output was not written.
+#[derive(Debug)]
+pub enum Unwritten {
+    /// Its reader went away, as `head` does: nobody is left who wants to know.
+    ReaderGone,
+    /// Anything else, in words.
+    Failed(String),
+}
+
+/// Writes all of it to standard output.
+pub fn write_out(bytes: &[u8]) -> Result<(), Unwritten> {
+    let mut output = io::stdout().lock();
+    output.write_all(bytes).and_then(|()| output.flush()).map_err(|error| match error.kind() {
+        ErrorKind::BrokenPipe => Unwritten::ReaderGone,
+        _ => Unwritten::Failed(format!("standard output: {error}")),
+    })
+}
+
+/// Writes a message to standard error. Where that can't be written, there is nobody to tell.
+pub fn tell(message: impl Display) {
+    let _ = writeln!(io::stderr().lock(), "{message}");
+}
+
+/// Writes a line to standard output; where it can't be written, the command ends with a message and [`FAILED`].
+pub fn print(command: &str, line: impl Display) {
+    if let Err(unwritten) = write_out(format!("{line}\n").as_bytes()) {
+        if let Unwritten::Failed(message) = unwritten {
+            tell(format!("{command}: {message}"));
+        }
+        exit(FAILED.into());
+    }
+}

@@ -1,0 +1,213 @@
+//! Where what stands there is nearly right, a hint says what was meant; elsewhere there is none.
+#![forbid(unsafe_code)]
+
+use models::assemble;
+
+/// The hint for the first mistake of a text, which has one.
+#[track_caller]
+fn hint(text: &str) -> Option<String> {
+    match assemble(text.as_bytes()) {
+        Ok(bytes) => panic!("{text}\nwas assembled to {bytes:?}"),
+        Err(mistake) => mistake.hint,
+    }
+}
+
+/// The hint for a line among 3 values, locations x, flag and counter, constant full, register mine and label again.
+#[track_caller]
+fn line(line: &str) -> Option<String> {
+    let header = "values 3\nlocations x flag counter\nconstants full = 1\nregisters mine = r0\n";
+    hint(&format!("{header}thread\nagain:\n{line}\n"))
+}
+
+#[track_caller]
+fn lines(expected: &str, of: &[&str]) {
+    for text in of {
+        assert_eq!(line(text).as_deref(), Some(expected), "{text}");
+    }
+}
+
+#[track_caller]
+fn headers(expected: &str, of: &[&str]) {
+    for text in of {
+        assert_eq!(hint(text).as_deref(), Some(expected), "{text}");
+    }
+}
+
+#[test]
+fn a_hint_stands_on_a_second_line() {
+    let mistake = assemble(b"values 2\nlocations x\nthread\n  x = 1\n").unwrap_err();
+    assert_eq!(mistake.to_string(), "4:5: expected ':=', found '='\n  hint: ':=' assigns, '=' compares");
+    let mistake = assemble(b"values 2\nlocations x\nthread\n  x\n").unwrap_err();
+    assert_eq!(mistake.to_string(), "4:4: expected ':=', found the end of the line");
+}
+
+#[test]
+fn comparisons_of_other_languages() {
+    lines("a comparison has one '='", &["r0 := r1 == 2", "wait(x == 1)", "again2: mine := 1 == full"]);
+    lines("':=' assigns, '=' compares", &["x = 1", "r0 = x", "mine == 1"]);
+    lines("there is no '<=': for a <= b write 'r0 := b < a', then 'r0 := r0 = 0'", &["r0 := r1 <= 2"]);
+    lines("there is no '>=': for a >= b write 'r0 := a < b', then 'r0 := r0 = 0'", &["r0 := r1 >= 2"]);
+    lines("there is no '>': for a > b write 'r0 := b < a'", &["r0 := r1 > 2"]);
+    lines(
+        "there is no '!=': for a != b write 'r0 := a = b', then 'r0 := r0 = 0'",
+        &["r0 := r1 != 2", "wait(x != 0)"],
+    );
+    lines(
+        "compare in a line of its own: 'r1 := r0 = 2', then 'if r1 goto ..'",
+        &["if r0 = 1 goto again", "if mine == 1 goto again", "if r0 != 1 goto again", "if r0 < 2 goto again"],
+    );
+    lines(
+        "'if' takes a value or a register, without brackets",
+        &["if (r0 == 1) goto again", "if (r0) goto again"],
+    );
+}
+
+#[test]
+fn accesses_of_other_forms() {
+    lines("write 'CAS(x, 0 -> 1)'", &["r0 := CAS(x, 0, 1)"]);
+    lines("write 'BCAS(flag, r1 -> full)'", &["BCAS(flag, r1, full)"]);
+    lines(
+        "a register gets the value found: 'r0 := CAS(..)'",
+        &["CAS(x, 0 -> 1)", "end: CAS(x, 0 -> 1)", "x := CAS(x, 0 -> 1)"],
+    );
+    lines("a register gets the value found: 'r0 := FADD(..)'", &["FADD(x, 1)", "flag := FADD(x, 1)"]);
+    lines("'BCAS' stands without ':='", &["r0 := BCAS(x, 0 -> 1)"]);
+    lines("'wait' stands without ':='", &["r0 := wait(x = 1)"]);
+    lines("a location stands without '&'", &["r0 := CAS(&x, 0 -> 1)", "wait(&x = 1)"]);
+}
+
+#[test]
+fn a_line_makes_one_access() {
+    let first = "read 'flag' into a register first, in a line of its own";
+    lines(first, &["x := flag", "if flag goto again", "wait(x = flag)", "r0 := CAS(x, flag -> 1)"]);
+    lines(first, &["r0 := 1 + flag", "r0 := FADD(x, flag)", "x := flag + 1"]);
+    lines("write 'r0 := FADD(x, 1)', or read 'x' into a register first", &["x := x + 1"]);
+    lines(
+        "a read stands alone: write 'r0 := x', and go on with r0",
+        &["r0 := x + 1", "r0 := x = 1", "r0 := x - 1"],
+    );
+    lines("a read stands alone: write 'mine := x', and go on with mine", &["mine := x < 1"]);
+    lines("work the value out in a register first", &["x := r0 + 1", "x := 1 = full", "x := 2 - 1"]);
+}
+
+#[test]
+fn values_that_are_too_large() {
+    lines("the value 3 takes 'values 4' or more", &["x := 3", "r0 := 3", "r0 := r0 + 3", "wait(x = 3)"]);
+    lines("the value 15 takes 'values 16' or more", &["r0 := CAS(x, 15 -> 1)", "if 15 goto again"]);
+    lines(
+        "the largest value is 15, with 'values 16'",
+        &["x := 16", "x := 255", "x := 256", "x := 99999999999"],
+    );
+    headers("the value 3 takes 'values 4' or more", &["values 3\nconstants a = 3\n"]);
+    lines("sums wrap: with 'values 3', '+ 2' takes 1 away", &["r0 := r0 - 1", "r0 := full - 1"]);
+    lines("sums wrap: with 'values 3', '+ 1' takes 2 away", &["r0 := r0 -2"]);
+}
+
+#[test]
+fn the_ends_of_lines() {
+    lines(
+        "a line ends without ';', and only one stands on a line",
+        &["x := 1;", "x := 1; flag := 1", "r0 := x;"],
+    );
+    lines(
+        "a comment starts with #",
+        &["x := 1 // why", "-- why", "// why", "r0 := x /* why */", "/* why */"],
+    );
+}
+
+#[test]
+fn words_that_are_nearly_right() {
+    lines("did you mean 'CAS'?", &["r0 := cas(x, 0, 1)", "cas(x, 0 -> 1)", "r0 := Cas(x, 0 -> 1)"]);
+    lines("did you mean 'FADD'?", &["r0 := fadd(x, 1)", "r0 := FAD(x, 1)"]);
+    lines("did you mean 'wait'?", &["Wait(x = 1)", "wiat(x = 1)"]);
+    lines("did you mean 'thread'?", &["x := 1\nThread", "x := 1\ntread", "x := 1\nthreads"]);
+    lines("did you mean 'flag'?", &["r0 := falg", "Flag := 1", "wait(flags = 1)", "r0 := CAS(flg, 0 -> 1)"]);
+    lines("did you mean 'counter'?", &["r0 := coutner", "cuonetr := 1", "r0 := conuter"]);
+    lines("did you mean 'x'?", &["X := 1", "r0 := X"]);
+    lines("did you mean 'full'?", &["x := ful", "if Full goto again"]);
+    lines("did you mean 'mine'?", &["mien := 1"]);
+    lines("did you mean 'again'?", &["goto agian", "if r0 goto Again", "goto agai"]);
+    lines("the registers are r0 to r3", &["r4 := 1", "x := r17", "r0 := r1 + r4", "r0 := r00"]);
+    headers("did you mean 'values'?", &["value 2\n", "Values 2\n"]);
+    headers("did you mean 'locations'?", &["values 2\nlocation x\n", "values 2\nlocatoins x\n"]);
+    headers("did you mean 'constants'?", &["values 2\nlocations x\nconstant a = 1\n"]);
+}
+
+#[test]
+fn headers_of_other_forms() {
+    let commas = "no commas between the names";
+    headers(commas, &["values 2\nlocations x, y\n", "values 2\nconstants a = 0, b = 1\n"]);
+    headers(commas, &["values 2\nregisters a = r0, b = r1\n"]);
+    let numbers = "threads have no numbers; 'thread * 3' is three equal threads";
+    headers(numbers, &["values 2\nlocations x\nthread 1\n"]);
+    let late = "definitions stand in the header, or before the first line of a thread";
+    lines(late, &["x := 1\nregisters a = r0", "x := 1\nconstants a = 1"]);
+}
+
+#[test]
+fn where_nothing_is_nearly_right_there_is_no_hint() {
+    for text in [
+        "r0 := z",
+        "z := 1",
+        "x",
+        "x :=",
+        "x := 1 2",
+        "x := 1 flga",
+        "x := 1 Thread",
+        "r0 := x @",
+        "@",
+        "goto 3",
+        "goto flag",
+        "goto end",
+        "if r0 x",
+        "wait x = 1",
+        "wait(x = 1",
+        "r0 := FADD(x)",
+        "r0 := CAS(x, 0 - 1)",
+        "again: x := 1",
+        "r9:",
+        "mine: x := 1",
+        "fort",
+        "cow := 1",
+        "r0 := r0 - 0",
+        "r0 := r0 - 3",
+        "r0 := FADD(x, 1 -> 2)",
+        "values 2",
+        "x / 1",
+        "else",
+    ] {
+        assert_eq!(line(text), None, "{text}");
+    }
+    for text in [
+        "",
+        "thread\n",
+        "values\n",
+        "values = 2\n",
+        "values 17\n",
+        "values 2 3\n",
+        "values 2\nlocations x goto\n",
+        "values 2\nlocations x r17\n",
+        "values 2\nlocations x\nconstants y = x\n",
+        "values 2\nlocations flag flag\n",
+        "values 2\nlocations x\nregisters y = 7\n",
+        "values 2\nlocations x\nthread x\n",
+        "values 2\nlocations x\nthread:\n",
+    ] {
+        assert_eq!(hint(text), None, "{text}");
+    }
+}
+
+#[test]
+fn two_names_that_are_equally_near_get_no_hint() {
+    let text = |name: &str| format!("values 2\nlocations lock1 lock2\nthread\nr0 := {name}\n");
+    assert_eq!(hint(&text("lock3")), None);
+    assert_eq!(hint(&text("Lock1")).as_deref(), Some("did you mean 'lock1'?"));
+    assert_eq!(hint(&text("lokc1")).as_deref(), Some("did you mean 'lock1'?"));
+}
+
+#[test]
+fn very_long_words_are_not_compared() {
+    let name = "n".repeat(300_000);
+    let text = format!("values 2\nlocations {name}\nthread\nr0 := {name}m\n");
+    assert_eq!(hint(&text), None);
+}

@@ -1,0 +1,40 @@
+//! The printing program: document 01's command, which reads program bytes and writes the report.
+
+use std::env;
+use std::io::{self, Write};
+use std::path::PathBuf;
+use std::process::{Command, Stdio};
+
+use answer::{report_in, Report, Step};
+
+/// The bytes of its table.
+pub const TABLE: usize = 49_152;
+
+/// What it reports of the program bytes, or why there is no report.
+pub fn report(program: &[u8]) -> Result<(Report, Vec<Step>), String> {
+    let path = path();
+    let output = run(&path, program).map_err(|error| format!("{}: {error}", path.display()))?;
+    // It has no exit status of its own: only its text tells whether all went well.
+    std::str::from_utf8(&output)
+        .ok()
+        .and_then(report_in)
+        .ok_or_else(|| format!("{}: it wrote no whole report", path.display()))
+}
+
+/// The program that `ORDER_CHECK` names, or the one beside this command.
+fn path() -> PathBuf {
+    let beside = || env::current_exe().unwrap_or_default().with_file_name("order_check");
+    env::var_os("ORDER_CHECK").map_or_else(beside, PathBuf::from)
+}
+
+fn run(path: &PathBuf, input: &[u8]) -> io::Result<Vec<u8>> {
+    let mut child = Command::new(path).stdin(Stdio::piped()).stdout(Stdio::piped()).spawn()?;
+    // It reads all before it writes, and what it writes fits into a pipe.
+    child.stdin.take().expect("it is piped").write_all(input)?;
+    let output = child.wait_with_output()?;
+    if output.status.success() {
+        Ok(output.stdout)
+    } else {
+        Err(io::Error::other(format!("it ended with {}", output.status)))
+    }
+}

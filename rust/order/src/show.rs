@@ -1,0 +1,85 @@
+//! What is shown of a model.
+
+use answer::Report;
+use command::tell;
+use explain::Explanation;
+use models::collection::{expected, Verdict};
+
+use crate::arguments::{Show, Task};
+use crate::data::json;
+use crate::decide::{decide, Decided};
+use crate::draw::draw;
+use crate::input::Input;
+use crate::reason::explanation;
+use crate::status::Status;
+use crate::words::{check, effort, meaning};
+
+/// The text for standard output and the status, or what went wrong.
+pub fn shown(input: &Input, task: &Task) -> Result<(String, Status), String> {
+    let decided = decide(input, task)?;
+    if let Report::Refused { number } = decided.report {
+        tell(format!("order: {}: no program: check {number} failed: {}", input.name, check(number)));
+    }
+    let text = match task.show {
+        Show::Expected => return as_expected(input, &decided.report),
+        Show::Report if !task.draws() && task.files.len() > 1 => named(input, &decided.report),
+        Show::Report if !task.draws() => lines(&decided),
+        _ => with_reasons(input, &decided, task)?,
+    };
+    Ok((text, Status::of(&decided.report)))
+}
+
+/// The lines of the printing program.
+fn lines(decided: &Decided) -> String {
+    let first = format!("{}\n", decided.report);
+    decided.steps.iter().fold(first, |text, step| text + &format!("{step}\n"))
+}
+
+/// The first of them, with the name of the file.
+fn named(input: &Input, report: &Report) -> String {
+    format!("{}: {report}\n", input.name)
+}
+
+/// What is shown where the reasons are asked for, in whatever form.
+fn with_reasons(input: &Input, decided: &Decided, task: &Task) -> Result<String, String> {
+    let explanation = explanation(input, decided)?;
+    let explanation = explanation.as_ref();
+    let words = words(input, decided, explanation, task.verbose);
+    if let Some(instead) = draw(input, decided, explanation, &words, task)? {
+        return Ok(instead);
+    }
+    Ok(match task.show {
+        Show::Json => format!("{}\n", json(input, decided, explanation)),
+        Show::Words if task.files.len() > 1 => format!("{}\n{words}\n", named(input, &decided.report)),
+        Show::Words => format!("{}\n\n{words}", decided.report),
+        Show::Report | Show::Expected => lines(decided),
+    })
+}
+
+/// What the report means.
+fn words(input: &Input, decided: &Decided, explanation: Option<&Explanation>, verbose: bool) -> String {
+    let meaning = match explanation {
+        Some(explanation) => explanation.words(verbose),
+        None => meaning(input, decided),
+    };
+    if verbose {
+        format!("{meaning}\n{}", effort(decided))
+    } else {
+        meaning
+    }
+}
+
+/// Whether the verdict is that of the model's own `# expect` line.
+fn as_expected(input: &Input, report: &Report) -> Result<(String, Status), String> {
+    let name = &input.name;
+    let expected = expected(&input.text).map_err(|what| format!("{name}:{what}"))?;
+    let (word, agrees) = match expected {
+        Verdict::Robust => ("RB", matches!(report, Report::Robust { .. })),
+        Verdict::NotRobust => ("NR", matches!(report, Report::NotRobust { .. })),
+    };
+    Ok(if agrees {
+        (format!("{name}: {report}, as expected\n"), Status::Good)
+    } else {
+        (format!("{name}: {report}, but {word} is expected\n"), Status::Failed)
+    })
+}

@@ -1,0 +1,148 @@
+//! The explanation in words, as data, on a page and for graphviz.
+
+use std::fs;
+
+use crate::user::{ends, ends_quietly, finish, folder, order, run, SB, SB_LINES};
+
+/// What it prints, with this status and nothing said.
+#[track_caller]
+fn printed(arguments: &[&str], input: &[u8], status: i32) -> String {
+    let output = run(arguments, input);
+    let text = String::from_utf8(output.stdout.clone()).unwrap();
+    ends_quietly(&output, status, &text);
+    text
+}
+
+#[test]
+fn not_robust_is_explained_by_a_run_and_a_cycle() {
+    let text = printed(&["--explain", "peterson-sc.order"], b"", 10);
+    assert!(text.starts_with("NR 12 4 2 W 2 0\n\nThe run"), "{text}");
+    assert!(text.lines().count() <= 40, "{text}");
+    assert!(text.lines().all(|line| line.chars().count() <= 80), "{text}");
+    for part in [
+        "Step 5 (thread 2, line 24) is not SC: release/acquire lets it write turn\ndirectly after turn = 0",
+        "writes turn = 0  written before   2  writes turn = 1",
+        "reads b = 0      read older than  4  writes b = 1",
+        "  robust      fences after lines ",
+    ] {
+        assert!(text.contains(part), "{part}\n{text}");
+    }
+}
+
+#[test]
+fn a_long_run_has_a_short_cycle() {
+    let text = printed(&["-q", "--explain", "ring-buffer-sc.order"], b"", 10);
+    let steps: usize = text.split(' ').nth(2).unwrap().parse().unwrap();
+    assert!(steps >= 40, "{text}");
+    let cycle: Vec<&str> = text
+        .lines()
+        .skip_while(|line| !line.starts_with("No SC run can do this"))
+        .skip(1)
+        .take_while(|line| !line.is_empty())
+        .collect();
+    assert!((2..=5).contains(&cycle.len()), "{text}");
+    let all = printed(&["-q", "-v", "--explain", "ring-buffer-sc.order"], b"", 10);
+    assert!(all.lines().count() > text.lines().count() + 20, "local lines are shown with -v\n{all}");
+    assert!(all.contains("917 situations in a table of "), "{all}");
+}
+
+#[test]
+fn lines_of_bytes_are_those_of_their_disassembly() {
+    let text = printed(&["--explain", "-"], SB, 10);
+    assert!(text.contains("disassembl") && text.contains("x := 1"), "{text}");
+    assert!(!printed(&["--explain", "sb.order"], b"", 10).contains("disassembl"));
+}
+
+#[test]
+fn robust_is_explained_by_what_it_allows() {
+    let text = printed(&["--explain", "mp.order"], b"", 0);
+    assert!(text.starts_with("RB 13\n\nRobust: every release/acquire run"), "{text}");
+    assert!(text.contains("to release") && text.contains("to acquire and release"), "{text}");
+    assert!(!text.contains("modulo") && !text.contains("situations"), "{text}");
+    let text = printed(&["-q", "-v", "--explain", "seqlock.order"], b"", 0);
+    assert!(text.contains("modulo 5") && text.contains("17823 situations in a table of 3 MiB"), "{text}");
+}
+
+#[test]
+fn undecided_and_refused_are_explained_too() {
+    let output = run(&["--explain", "--table", "100", "mp.order"], b"");
+    let text = String::from_utf8(output.stdout).unwrap();
+    assert!(text.starts_with("FU 1\n\nUndecided: there is no witness in the first 1 situations"), "{text}");
+    let output = run(&["--explain", "-"], b"PR");
+    assert_eq!(output.status.code(), Some(1));
+    let text = String::from_utf8(output.stdout).unwrap();
+    assert_eq!(text, "NO 1\n\nNo program: check 1 failed: the input starts with a whole PR record.\n");
+}
+
+#[test]
+fn several_are_explained_one_after_the_other() {
+    let text = printed(&["--explain", "sb.order", "mp.order"], b"", 10);
+    assert!(text.starts_with("sb.order: NR 7 3 2 R 0 0\n\nThe run:\n"), "{text}");
+    assert!(text.contains("\n\nmp.order: RB 13\n\nRobust: "), "{text}");
+}
+
+#[test]
+fn each_file_is_a_line_of_data() {
+    let output = run(&["--json", "sb.order", "missing.order", "mp.order"], b"");
+    assert_eq!(output.status.code(), Some(1));
+    let text = String::from_utf8(output.stdout).unwrap();
+    let lines: Vec<&str> = text.lines().collect();
+    let version = env!("CARGO_PKG_VERSION_MINOR");
+    let start = |file, verdict| format!("{{\"version\":{version},\"file\":\"{file}\",\"verdict\":{verdict},");
+    assert_eq!(lines.len(), 3, "{text}");
+    assert!(lines[0].starts_with(&start("sb.order", "\"NR\"")), "{text}");
+    assert!(lines[0]
+        .contains("\"report\":\"NR 7 3 2 R 0 0\",\"steps\":[\"ST 1 W 0 1\",\"ST 1 R 1 0\",\"ST 2 W 1 1\"]"));
+    assert!(lines[0].contains("\"situations\":7,\"table_bytes\":49152,\"index_bytes\":0,"), "{text}");
+    assert!(
+        lines[0].contains("\"explanation\":{\"format\":1,") && lines[0].contains("\"cycle\":[{\"from\":"),
+        "{text}"
+    );
+    assert!(
+        lines[1].starts_with(&(start("missing.order", "null") + "\"error\":\"order: missing.order: ")),
+        "{text}"
+    );
+    assert!(
+        lines[2].starts_with(&start("mp.order", "\"RB\"")) && lines[2].ends_with("\"explanation\":null}"),
+        "{text}"
+    );
+}
+
+#[test]
+fn a_page_and_a_graph_are_written_beside_the_report() {
+    let folder = folder("drawn");
+    let [page, graph] = ["page.html", "graph.dot"].map(|name| folder.join(name));
+    let both = ["--html", page.to_str().unwrap(), "--dot", graph.to_str().unwrap()];
+    ends_quietly(&finish(order().args(both).arg("sb.order"), b""), 10, SB_LINES);
+    let page_text = fs::read_to_string(&page).unwrap();
+    assert!(page_text.contains("Not robust") && page_text.contains("<svg") && page_text.contains("sb.order"));
+    assert!(page_text.contains("No SC run can do this"), "the words stand on the page");
+    let graph_text = fs::read_to_string(&graph).unwrap();
+    assert!(graph_text.starts_with("digraph") && graph_text.contains("penwidth"), "{graph_text}");
+
+    ends_quietly(&finish(order().args(both).arg("mp.order"), b""), 0, "RB 13\n");
+    assert!(!fs::read_to_string(&page).unwrap().contains("<svg"), "RB has no graph");
+    assert_eq!(
+        fs::read_to_string(&graph).unwrap(),
+        "digraph order {\n  label=\"RB 13: only NR has a graph\";\n}\n"
+    );
+    assert_eq!(printed(&["--html", "-", "sb.order"], b"", 10), page_text);
+    assert_eq!(printed(&["--dot", "-", "sb.order"], b"", 10), graph_text);
+}
+
+#[test]
+fn a_page_that_can_not_be_written_is_a_failure() {
+    let said = ends(&run(&["--html", "no/such/folder", "mp.order"], b""), 1, "");
+    assert!(said.starts_with("order: no/such/folder: "), "{said}");
+    let said = ends(&run(&["--dot", "/dev/full", "mp.order"], b""), 1, "");
+    assert!(said.starts_with("order: /dev/full: "), "{said}");
+    for (arguments, what) in [
+        (&["--html"][..], "expected a file after --html"),
+        (&["--html", "a", "sb.order", "mp.order"], "--html and --dot are for one model"),
+        (&["--dot", "a", "--expect", "sb.order"], "--expect goes with neither --html nor --dot"),
+    ] {
+        assert_eq!(ends(&run(arguments, b""), 2, ""), format!("order: {what}; see order --help\n"));
+    }
+    let said = ends(&run(&["--html", "never", "-"], b"PR"), 1, "NO 1\n");
+    assert!(said.contains("no page"), "{said}");
+}

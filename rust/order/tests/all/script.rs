@@ -1,0 +1,167 @@
+//! The script `./order`: what it builds, and what it hands on. It stands here in a tree of its own, with stand-ins for
+//! the tools that build.
+
+use std::fs;
+use std::os::unix::fs::{symlink, PermissionsExt};
+use std::path::{Path, PathBuf};
+use std::process::Command;
+
+use crate::user::{checker, ends, ends_quietly, finish, folder, SB, SB_LINES};
+
+/// What the script uses of the system, beside what builds.
+const TOOLS: [&str; 15] = [
+    "bash", "cat", "cp", "dirname", "env", "find", "mkdir", "mktemp", "mv", "readlink", "rm", "sed", "sh",
+    "tee", "touch",
+];
+
+/// A tree with the script, and with all that it builds unless `bare`.
+struct Tree {
+    root: PathBuf,
+}
+
+impl Tree {
+    fn new(test: &str, bare: bool) -> Tree {
+        let tree = Tree { root: folder(test) };
+        let script = Path::new(env!("CARGO_MANIFEST_DIR")).join("../../order");
+        fs::copy(script, tree.root.join("order")).unwrap();
+        fs::write(tree.root.join("sb"), SB).unwrap();
+        for source in ["crates/a", "crates.txt", "rust/Cargo.toml", "tools/none"] {
+            tree.write(source, "");
+        }
+        for tool in TOOLS {
+            let found = ["/usr/bin", "/bin"]
+                .map(|folder| Path::new(folder).join(tool))
+                .into_iter()
+                .find(|it| it.exists());
+            symlink(found.unwrap_or_else(|| panic!("no {tool}")), tree.root.join("tools").join(tool))
+                .unwrap();
+        }
+        if !bare {
+            tree.copy(&checker(), "target/bin/order_check");
+            tree.write("target/staticlib/liborder_check_c.a", "");
+            tree.copy(Path::new(env!("CARGO_BIN_EXE_order")), "rust/target/release/order");
+            for stamp in ["checker", "library", "command"] {
+                tree.write(&format!("target/order/{stamp}"), "");
+            }
+        }
+        tree
+    }
+
+    fn write(&self, name: &str, text: &str) {
+        let path = self.root.join(name);
+        fs::create_dir_all(path.parent().unwrap()).unwrap();
+        fs::write(path, text).unwrap();
+    }
+
+    fn copy(&self, from: &Path, name: &str) {
+        self.write(name, "");
+        fs::copy(from, self.root.join(name)).unwrap();
+    }
+
+    /// Puts a tool on the path of [`Tree::shell`].
+    fn tool(&self, name: &str, script: &str) {
+        let name = format!("tools/{name}");
+        self.write(&name, &format!("#!/bin/sh\n{script}\n"));
+        fs::set_permissions(self.root.join(name), PermissionsExt::from_mode(0o755)).unwrap();
+    }
+
+    /// A shell that knows no other tools than [`TOOLS`] and those of this tree.
+    fn shell(&self, line: &str) -> Command {
+        let mut command = Command::new("/bin/sh");
+        let path = self.root.join("tools");
+        command.args(["-c", line]).env_remove("ORDER_CHECK").env("PATH", path).current_dir(&self.root);
+        command
+    }
+}
+
+#[test]
+fn nothing_is_asked_for_where_nothing_must_be_built() {
+    let tree = Tree::new("built", false);
+    for tool in ["cargo", "rt"] {
+        tree.tool(tool, "echo called >&2; exit 1");
+    }
+    ends_quietly(&finish(&mut tree.shell("./order sb"), b""), 10, SB_LINES);
+    ends_quietly(&finish(&mut tree.shell("./order - < sb"), b""), 10, SB_LINES);
+    ends_quietly(&finish(&mut tree.shell("cat sb | ./order -"), b""), 10, SB_LINES);
+}
+
+#[test]
+fn it_works_from_anywhere_and_by_a_link() {
+    let tree = Tree::new("linked", false);
+    fs::create_dir(tree.root.join("elsewhere")).unwrap();
+    symlink("../order", tree.root.join("elsewhere/check")).unwrap();
+    fs::copy(tree.root.join("sb"), tree.root.join("elsewhere/mine")).unwrap();
+    ends_quietly(&finish(&mut tree.shell("cd elsewhere && ./check mine"), b""), 10, SB_LINES);
+    ends_quietly(&finish(&mut tree.shell("cd elsewhere && ../order mine"), b""), 10, SB_LINES);
+    ends_quietly(
+        &finish(&mut tree.shell("cd / && \"$OLDPWD\"/elsewhere/check \"$OLDPWD\"/sb"), b""),
+        10,
+        SB_LINES,
+    );
+}
+
+#[test]
+fn a_closed_output_is_a_failure_with_a_message() {
+    let tree = Tree::new("closed", false);
+    assert_eq!(
+        ends(&finish(&mut tree.shell("./order sb >&-"), b""), 1, ""),
+        "order: standard output is closed\n"
+    );
+    ends_quietly(&finish(&mut tree.shell("./order sb >/dev/null"), b""), 10, "");
+    ends_quietly(&finish(&mut tree.shell("./order sb 2>&-"), b""), 10, SB_LINES);
+}
+
+#[test]
+fn a_missing_tool_is_named_with_where_it_comes_from() {
+    let tree = Tree::new("no-tools", true);
+    let said = ends(&finish(&mut tree.shell("./order sb"), b""), 1, "");
+    assert_eq!(
+        said,
+        "order: rt is missing, and something must be built with it: it comes with the Rattle kit\n"
+    );
+    let tree = Tree::new("no-cargo", false);
+    fs::remove_file(tree.root.join("rust/target/release/order")).unwrap();
+    let said = ends(&finish(&mut tree.shell("./order sb"), b""), 1, "");
+    assert_eq!(said, "order: cargo is missing, and something must be built with it: it comes with Rust\n");
+}
+
+#[test]
+fn what_is_missing_is_built_crate_by_crate() {
+    let tree = Tree::new("builds", true);
+    tree.copy(&checker(), "made/order_check");
+    tree.copy(Path::new(env!("CARGO_BIN_EXE_order")), "made/order");
+    let rt = "cat; case $1 in
+        check) echo 'rt: a proved (3 s)'; mkdir -p target/bin; cp made/order_check target/bin/;;
+        staticlib) echo 'rt: b proved (0 s)'; mkdir -p target/staticlib; echo > target/staticlib/liborder_check_c.a;;
+      esac; echo noise; echo noise >&2";
+    tree.tool("rt", rt);
+    tree.tool("cargo", "cat; mkdir -p rust/target/release; cp made/order rust/target/release/; echo noise");
+    let said = ends(&finish(&mut tree.shell("./order - < sb"), b""), 10, SB_LINES);
+    let lines = [
+        "proving and building the checker",
+        "  a proved in 3 s",
+        "building the library",
+        "  b proved in 0 s",
+    ];
+    for line in lines {
+        assert!(said.contains(&format!("order: {line}")), "{said}");
+    }
+    ends_quietly(&finish(&mut tree.shell("./order sb"), b""), 10, SB_LINES);
+}
+
+#[test]
+fn a_build_that_fails_or_is_broken_off_does_not_count() {
+    let tree = Tree::new("fails", false);
+    tree.write("crates/a", "newer than what was made of it");
+    for reason in ["echo 'the reason'; exit 3", "touch target/bin/order_check; echo 'the reason'; kill -9 $$"]
+    {
+        tree.tool("rt", reason);
+        for _ in 0..2 {
+            let said = ends(&finish(&mut tree.shell("./order sb"), b""), 1, "");
+            assert!(said.contains("the reason\n"), "{said}");
+            assert!(said.ends_with("order: that failed, and nothing was checked\n"), "{said}");
+        }
+    }
+    tree.tool("rt", "echo made");
+    ends(&finish(&mut tree.shell("./order sb"), b""), 10, SB_LINES);
+}

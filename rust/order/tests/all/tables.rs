@@ -1,0 +1,63 @@
+//! In which tables is searched.
+
+use std::fs;
+
+use crate::user::{ends, ends_quietly, models, run, SB, SB_LINES};
+
+#[test]
+fn a_full_table_is_followed_by_longer_ones() {
+    let said = ends(&run(&["seqlock.order"], b""), 0, "RB 17823\n");
+    let lines: Vec<&str> = said.lines().collect();
+    assert_eq!(lines.len(), 2, "{said}");
+    assert!(lines[0].starts_with("order: seqlock.order: no witness in 455 situations (48 KiB, "), "{said}");
+    assert!(lines[0].ends_with("going on with 440.9 KiB"), "{said}");
+    assert!(
+        lines[1].starts_with("order: seqlock.order: no witness in 3640 situations (440.9 KiB, "),
+        "{said}"
+    );
+    ends_quietly(&run(&["-q", "seqlock.order"], b""), 0, "RB 17823\n");
+}
+
+#[test]
+fn one_table_is_one_table() {
+    for size in ["49152", "49_152", "48K"] {
+        let said = ends(&run(&["--table", size, "seqlock.order"], b""), 11, "FU 455\n");
+        assert!(said.starts_with("order: seqlock.order: undecided: no witness in 455 situations"), "{said}");
+        assert!(said.contains("(--table 192K)") && said.lines().count() == 1, "{said}");
+    }
+    ends_quietly(&run(&["--table=10M", "seqlock.order"], b""), 0, "RB 17823\n");
+    ends_quietly(&run(&["--table", "413", "-"], SB), 10, SB_LINES);
+    ends(&run(&["--table", "412", "-"], SB), 11, "FU 6\n");
+    ends(&run(&["--table", "0", "-"], SB), 11, "FU 0\n");
+    ends(&run(&["--table", "0", "-"], b"PR"), 1, "NO 1\n");
+}
+
+#[test]
+fn the_trace_has_room_for_any_run() {
+    // The printing program decides it in its own table too, and in the same way.
+    let stored = fs::read_to_string(models().join("reports/long-run.txt")).unwrap();
+    assert_eq!(stored.lines().count(), 706);
+    // 711 places of two threads and two locations.
+    ends_quietly(&run(&["--table", "41949", "long-run.order"], b""), 10, &stored);
+    ends(&run(&["--table", "41948", "long-run.order"], b""), 11, "FU 710\n");
+    ends_quietly(&run(&["long-run.order"], b""), 10, &stored);
+}
+
+#[test]
+fn an_index_makes_it_fast() {
+    // Four threads of 15 lines that read one location, which only makes them go on: 16 to the power of four situations.
+    let thread = format!("thread\n{}", "r0 := x\n".repeat(15));
+    let text = format!("values 2\nlocations x\n{}", thread.repeat(4));
+    // A place of four threads and one location has 56 bytes.
+    ends_quietly(&run(&["--table", "3670016", "-"], text.as_bytes()), 0, "RB 65536\n");
+    ends(&run(&["--table", "3670015", "-"], text.as_bytes()), 11, "FU 65535\n");
+}
+
+#[test]
+fn a_table_that_can_not_be_had_is_a_message() {
+    for size in ["99999999999999", "9000000G", "18446744073709551615"] {
+        let said = ends(&run(&["--table", size, "mp.order"], b""), 1, "");
+        assert!(said.starts_with("order: mp.order: a table of "), "{said}");
+        assert!(said.contains("memory"), "{said}");
+    }
+}

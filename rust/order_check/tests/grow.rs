@@ -1,0 +1,77 @@
+//! The calls that allocate.
+#![forbid(unsafe_code)]
+
+use order_check::{check_growing, check_in, place_size, tables, Kind, Lent, NoMemory, Report};
+
+/// x := 1; read y ‖ y := 1; read x; K = 2.
+const SB: &[u8] = b"PR\x02\x02\x02TH\x02IN\x05\x00\x00\x01\x00IN\x06\x00\x01\x00\x00\
+    TH\x02IN\x05\x00\x01\x01\x00IN\x06\x00\x00\x00\x00";
+
+/// Four threads of so many lines that read one location, which only makes them go on.
+fn readers(lines: u8) -> Vec<u8> {
+    let thread = [b"TH", &[lines][..], &b"IN\x06\x00\x00\x00\x00".repeat(lines.into())].concat();
+    [b"PR\x04\x01\x02".as_slice(), &thread.repeat(4)].concat()
+}
+
+#[test]
+fn a_run_comes_with_its_steps() {
+    let checked = check_in(SB, Lent::with_table(SB, 413)).unwrap();
+    let stale = Report::NotRobust { count: 7, steps: 3, thread: 2, kind: Kind::Read, location: 0, value: 0 };
+    assert_eq!(checked.report, stale);
+    let lines: Vec<String> = checked.steps.iter().map(|step| step.to_string()).collect();
+    assert_eq!(lines, ["ST 1 W 0 1", "ST 1 R 1 0", "ST 2 W 1 1"]);
+    // Seven places with two slots of eight bytes each.
+    assert_eq!(checked.lent, Lent { table: 413, index: 112 });
+    assert_eq!(check_growing(SB, usize::MAX).unwrap().report, stale);
+}
+
+#[test]
+fn the_memory_grows_up_to_the_limit() {
+    let place = place_size(2, 2);
+    assert_eq!(place, 59);
+    let lengths = |limit| tables(SB, limit).map(|lent| lent.table).collect::<Vec<_>>();
+    // With its index a place has 75 bytes.
+    assert_eq!(lengths(74), [0]);
+    assert_eq!(lengths(75), [59]);
+    assert_eq!(lengths(62_474), [49_088]);
+    assert_eq!(lengths(62_475), [49_147]);
+    assert_eq!(lengths(1_000_000), [49_152, 393_216, 786_647]);
+    for limit in [0, 1_000, 100_000, 10_000_000, 1 << 30] {
+        let all: Vec<Lent> = tables(SB, limit).collect();
+        let last = *all.last().unwrap();
+        assert_eq!(last, Lent::within(SB, limit));
+        assert!(last.bytes() <= limit && last.bytes() + place + 16 > limit, "{last:?}");
+        assert!(all.windows(2).all(|two| two[0].bytes() < two[1].bytes()));
+    }
+}
+
+#[test]
+fn it_goes_on_until_a_table_decides() {
+    // 16 to the power of four situations, in places of 56 bytes.
+    let program = readers(15);
+    let checked = check_growing(&program, 1 << 30).unwrap();
+    assert_eq!(checked.report, Report::Robust { count: 65_536 });
+    assert_eq!(checked.lent.table, 49_152 * 8 * 8 * 8);
+    let just = 65_536 * (56 + 16);
+    assert_eq!(check_growing(&program, just).unwrap().report, Report::Robust { count: 65_536 });
+    assert_eq!(check_growing(&program, just - 1).unwrap().report, Report::Full { count: 65_535 });
+}
+
+#[test]
+fn what_is_no_program_is_refused_in_the_first_table() {
+    for bytes in [&b""[..], b"PR", b"PR\xff\xff\xff"] {
+        let checked = check_growing(bytes, 1 << 40).unwrap();
+        assert!(matches!(checked.report, Report::Refused { .. }));
+        assert_eq!(checked.lent.table, 49_152);
+    }
+}
+
+#[test]
+fn memory_that_can_not_be_had_is_an_error() {
+    for table in [1 << 50, usize::MAX] {
+        let asked = Lent::with_table(SB, table);
+        let error = check_in(SB, asked).unwrap_err();
+        assert_eq!(error, NoMemory { asked });
+        assert!(error.to_string().starts_with(&format!("no memory for a table of {table} bytes")));
+    }
+}
