@@ -58,6 +58,8 @@ fn open(browser: &Path, name: &str, html: &str) -> Seen {
         .stderr(File::create(&log).unwrap())
         .spawn();
     wait(child.unwrap_or_else(|error| panic!("{}: {error}", browser.display())), name);
+    // What it keeps there is of no use later; where it is still writing, some of it stays.
+    let _ = fs::remove_dir_all(&profile);
     let read = |file: &Path| String::from_utf8_lossy(&fs::read(file).unwrap()).into_owned();
     let console = read(&log).lines().filter(|line| line.contains("CONSOLE")).map(String::from).collect();
     Seen { dom: read(&dom), console }
