@@ -5,9 +5,11 @@ use models::Source;
 
 use crate::drawn::Drawn;
 use crate::picture::{without_head, Picture, Point, Rect, Wire};
-use crate::relations::look;
+use crate::relations::{look, Look};
 use crate::words::Words;
 use crate::Graph;
+
+const SANS: &str = "sans-serif";
 
 /// How far beside a line its name stands.
 const BESIDE: i32 = 10;
@@ -22,25 +24,30 @@ pub fn dot(source: &Source, graph: &Graph) -> String {
         events.map(|event| node(&drawing.words, event, &picture.boxes[event])).collect()
     };
     let cluster = |(thread, rect): (usize, &Rect)| cluster(thread + 1, rect, &nodes(Some(thread)));
+    let clusters: String = picture.columns.iter().enumerate().map(cluster).collect();
     let edges = drawing.edges.iter().zip(&picture.wires).map(|(drawn, wire)| edge(drawn, wire));
+    let edges: String = edges.collect();
+    let all = attributes([("layout", "nop2"), ("fontname", SANS)].map(owned));
+    let all_nodes = [("shape", "box"), ("fixedsize", "true"), ("fontname", "monospace"), ("fontsize", "11")];
+    let all_nodes = attributes(all_nodes.map(owned));
+    let all_edges = attributes([("fontname", SANS), ("fontsize", "11")].map(owned));
+    let starts = nodes(None);
     format!(
-        "digraph execution {{\n  layout=nop2;\n  fontname=\"sans-serif\";\n  node [shape=box, fixedsize=true, \
-         fontname=\"monospace\", fontsize=11];\n  edge [fontname=\"sans-serif\", fontsize=11];\n  {{\n    \
-         rank=min;\n{}  }}\n{}{}}}\n",
-        nodes(None),
-        picture.columns.iter().enumerate().map(cluster).collect::<String>(),
-        edges.collect::<String>(),
+        "digraph execution {{\n  graph {all};\n  node {all_nodes};\n  edge {all_edges};\n  \
+         {{\n    rank=min;\n{starts}  }}\n{clusters}{edges}}}\n"
     )
 }
 
 /// The column of a thread. Heights count upward.
 fn cluster(number: usize, rect: &Rect, nodes: &str) -> String {
     let (left, right, top, bottom) = (rect.x, rect.right(), -rect.y, -rect.bottom());
-    let heading = place((rect.middle(), rect.y + 15));
-    format!(
-        "  subgraph cluster_{number} {{\n    label=\"thread {number}\";\n    lp=\"{heading}\";\n    \
-         bb=\"{left},{bottom},{right},{top}\";\n    color=\"gray\";\n{nodes}  }}\n"
-    )
+    let look = attributes([
+        ("label", format!("thread {number}")),
+        ("lp", place((rect.middle(), rect.y + 15))),
+        ("bb", format!("{left},{bottom},{right},{top}")),
+        ("color", "gray".into()),
+    ]);
+    format!("  subgraph cluster_{number} {{\n    graph {look};\n{nodes}  }}\n")
 }
 
 fn node(words: &Words, event: usize, rect: &Rect) -> String {
@@ -49,28 +56,32 @@ fn node(words: &Words, event: usize, rect: &Rect) -> String {
         Some(_) if words.is_stale(event) => "dashed",
         Some(_) => "solid",
     };
-    let [access, origin] = [words.access(event), words.origin(event)].map(|text| quoted(&text));
-    let at = place((rect.middle(), rect.y + rect.height / 2));
-    let [width, height] = [rect.width, rect.height].map(inches);
-    format!(
-        "    e{event} [label=\"{access}\\n{origin}\", style={style}, pos=\"{at}\", width={width}, \
-         height={height}];\n"
-    )
+    let look = attributes([
+        ("label", format!("{}\n{}", words.access(event), words.origin(event))),
+        ("style", style.into()),
+        ("pos", place((rect.middle(), rect.y + rect.height / 2))),
+        ("width", inches(rect.width)),
+        ("height", inches(rect.height)),
+    ]);
+    format!("    e{event} {look};\n")
 }
 
 fn edge(drawn: &Drawn, wire: &Wire) -> String {
     let Edge { from, to, relation } = drawn.edge;
-    let look = look(relation);
-    let ([colour, _], style, head, short) = (look.colours, look.style, look.head, look.short);
-    let width = if drawn.in_cycle { 3 } else { 1 };
+    let Look { short, colours: [colour, _], style, head, .. } = *look(relation);
     // Graphviz has nothing behind a name to hide the line.
     let name = if drawn.is_next { wire.name } else { (wire.name.0 + BESIDE, wire.name.1) };
-    format!(
-        "  e{from} -> e{to} [label=\"{short}\", color=\"{colour}\", fontcolor=\"{colour}\", style={style}, \
-         arrowhead={head}, penwidth={width}, pos=\"{}\", lp=\"{}\"];\n",
-        spline(&wire.points, drawn.in_cycle),
-        place(name),
-    )
+    let look = attributes([
+        ("label", short.into()),
+        ("color", colour.into()),
+        ("fontcolor", colour.into()),
+        ("style", style.into()),
+        ("arrowhead", head.into()),
+        ("penwidth", if drawn.in_cycle { "3" } else { "1" }.into()),
+        ("pos", spline(&wire.points, drawn.in_cycle)),
+        ("lp", place(name)),
+    ]);
+    format!("  e{from} -> e{to} {look};\n")
 }
 
 /// A line as graphviz has them: the tip of the head, and curves with two points between their ends, here straight.
@@ -92,7 +103,13 @@ fn inches(length: i32) -> String {
     format!("{:.3}", f64::from(length) / 72.0)
 }
 
-/// Text between quotation marks.
-fn quoted(text: &str) -> String {
-    text.replace('\\', "\\\\").replace('"', "\\\"")
+fn owned((name, value): (&'static str, &str)) -> (&'static str, String) {
+    (name, value.into())
+}
+
+/// A list of attributes, each value between quotation marks.
+fn attributes<const N: usize>(list: [(&str, String); N]) -> String {
+    let quoted = |text: String| text.replace('\\', r"\\").replace('"', "\\\"").replace('\n', r"\n");
+    let list = list.map(|(name, value)| format!("{name}=\"{}\"", quoted(value)));
+    format!("[{}]", list.join(", "))
 }

@@ -1,10 +1,10 @@
 //! The page.
 
-use crate::escape::escaped;
+use crate::element::{element, Element};
 use crate::legend::legend;
 use crate::picture::{svg, Picture};
-use crate::relations::LOOKS;
 use crate::steps::table;
+use crate::style::style;
 use crate::verdict::{head, reason};
 use crate::words::Words;
 use crate::{Graph, Page};
@@ -16,83 +16,78 @@ const POLICY: &str =
 impl Page<'_> {
     /// The page as one file, which is HTML and XML at once.
     pub fn html(&self) -> String {
-        let name = escaped(self.name);
-        let verdict = head(self.report);
-        let reason = escaped(&reason(self.source, self.report));
-        format!(
-            "<!DOCTYPE html>\n<html xmlns=\"http://www.w3.org/1999/xhtml\" lang=\"en\">\n<head>\n\
-             <meta charset=\"utf-8\" />\n<meta http-equiv=\"Content-Security-Policy\" content=\"{POLICY}\" />\n\
-             <meta name=\"viewport\" content=\"width=device-width, initial-scale=1\" />\n\
-             <meta name=\"color-scheme\" content=\"light dark\" />\n<link rel=\"icon\" href=\"data:,\" />\n\
-             <title>{name}: {}</title>\n<style>\n{}</style>\n</head>\n<body>\n<header>\n<h1>{name}</h1>\n\
-             <p id=\"verdict\"><strong>{verdict}:</strong> {reason}</p>\n</header>\n<main>\n{}</main>\n\
-             <footer><p>The report of the order checker: <code>{}</code></p></footer>\n</body>\n</html>\n",
-            verdict.to_lowercase(),
-            style(),
-            self.sections(),
-            self.report,
-        )
+        let body = element("body").lines([self.header(), self.main(), self.footer()]);
+        let page = element("html").with("xmlns", "http://www.w3.org/1999/xhtml").with("lang", "en");
+        format!("<!DOCTYPE html>\n{}\n", page.lines([self.head(), body]))
     }
 
-    fn sections(&self) -> String {
+    fn head(&self) -> Element {
+        let meta = |name, content| element("meta").with("name", name).with("content", content);
+        element("head").lines([
+            element("meta").with("charset", "utf-8"),
+            element("meta").with("http-equiv", "Content-Security-Policy").with("content", POLICY),
+            meta("viewport", "width=device-width, initial-scale=1"),
+            meta("color-scheme", "light dark"),
+            // Without one a browser asks the server for an icon.
+            element("link").with("rel", "icon").with("href", "data:,"),
+            element("title").text(&format!("{}: {}", self.name, head(self.report).to_lowercase())),
+            element("style").sheet(&style()),
+        ])
+    }
+
+    fn header(&self) -> Element {
+        let verdict = element("strong").text(&format!("{}:", head(self.report)));
+        let reason = reason(self.source, self.report);
+        let verdict = element("p").with("id", "verdict").child(verdict).text(&format!(" {reason}"));
+        element("header").lines([element("h1").text(self.name), verdict])
+    }
+
+    fn main(&self) -> Element {
         let graph = self.graph.as_ref();
-        let explanation = (!self.words.is_empty()).then(|| format!("<pre>{}</pre>\n", escaped(self.words)));
+        let explanation = (!self.words.is_empty()).then(|| element("pre").text(self.words));
         let parts = [
             ("graph", "Execution graph", graph.map(|graph| self.picture(graph))),
             ("explanation", "Explanation", explanation),
             ("steps", "Steps", graph.map(|graph| self.steps(graph))),
             ("model", "Model", Some(self.model())),
         ];
-        let there = parts.into_iter().filter_map(|(id, heading, part)| Some((id, heading, part?)));
-        there.map(|(id, heading, part)| section(id, heading, &part)).collect()
+        let sections = parts.into_iter().filter_map(|(id, heading, part)| Some(section(id, heading, part?)));
+        element("main").lines(sections)
     }
 
-    fn picture(&self, graph: &Graph) -> String {
+    fn picture(&self, graph: &Graph) -> Element {
         let picture = svg(&Picture::of(self.source, graph));
-        let scrolling = scrolling("The execution graph, to scroll", &picture);
-        format!("<div class=\"picture\">\n{}{scrolling}</div>\n", legend())
+        let picture = scrolling("The execution graph, to scroll", picture);
+        element("div").with("class", "picture").lines([legend(), picture])
     }
 
-    fn steps(&self, graph: &Graph) -> String {
+    fn steps(&self, graph: &Graph) -> Element {
         let words = Words { source: self.source, execution: graph.execution };
-        scrolling("The steps, to scroll", &table(&words))
+        scrolling("The steps, to scroll", table(&words))
     }
 
     /// The text with its lines numbered; each can be linked to.
-    fn model(&self) -> String {
+    fn model(&self) -> Element {
         let line = |(place, text): (usize, &str)| {
-            format!("<li id=\"line-{}\"><code>{}</code></li>\n", place + 1, escaped(text))
+            element("li").with("id", format!("line-{}", place + 1)).child(element("code").text(text))
         };
-        let lines: String = self.text.lines().enumerate().map(line).collect();
-        format!("<ol class=\"model\">\n{lines}</ol>\n")
+        element("ol").with("class", "model").lines(self.text.lines().enumerate().map(line))
+    }
+
+    fn footer(&self) -> Element {
+        let report = element("code").text(&self.report.to_string());
+        element("footer").child(element("p").text("The report of the order checker: ").child(report))
     }
 }
 
-fn section(id: &str, heading: &str, part: &str) -> String {
-    format!(
-        "<section id=\"{id}\" aria-labelledby=\"{id}-heading\">\n<h2 id=\"{id}-heading\">{heading}</h2>\n{part}</section>\n"
-    )
+fn section(id: &str, heading: &str, part: Element) -> Element {
+    let heading_id = format!("{id}-heading");
+    let heading = element("h2").with("id", &heading_id).text(heading);
+    element("section").with("id", id).with("aria-labelledby", heading_id).lines([heading, part])
 }
 
 /// A part that scrolls where it is too large, also by keys.
-fn scrolling(name: &str, part: &str) -> String {
-    format!("<div class=\"scroll\" role=\"region\" aria-label=\"{name}\" tabindex=\"0\">\n{part}</div>\n")
-}
-
-/// The style, with the colours and dashes of the relations in front.
-fn style() -> String {
-    let colours = |ground: usize| -> String {
-        LOOKS.iter().map(|look| format!(" --{}: {};", look.short, look.colours[ground])).collect()
-    };
-    let dashes = LOOKS.iter().map(|look| {
-        let short = look.short;
-        format!(".{short} {{ --colour: var(--{short}); --dashes: {}; }}\n", look.dashes)
-    });
-    format!(
-        ":root {{{} }}\n@media screen and (prefers-color-scheme: dark) {{ :root {{{} }} }}\n{}{}",
-        colours(0),
-        colours(1),
-        dashes.collect::<String>(),
-        include_str!("style.css")
-    )
+fn scrolling(name: &str, part: Element) -> Element {
+    let scrolling = element("div").with("class", "scroll").with("role", "region");
+    scrolling.with("aria-label", name).with("tabindex", 0).lines([part])
 }

@@ -1,35 +1,40 @@
 //! What the lines and boxes of the picture stand for.
 
+use crate::element::{element, Element};
 use crate::relations::{Look, LOOKS};
 
 /// The legend as a list.
-pub fn legend() -> String {
+pub fn legend() -> Element {
     let relation = |Look { short, name, meaning, .. }: &Look| {
-        entry(&line(short), &format!("<b>{short}</b> {name}: {meaning}"))
+        entry(line(&format!("edge {short}")), short, &format!(" {name}: {meaning}"))
     };
-    let relations: String = LOOKS.iter().map(relation).collect();
-    format!(
-        "<ul class=\"legend\" aria-label=\"Legend\">\n{relations}{}{}{}</ul>\n",
-        entry(&line("po cycle"), "<b>bold</b>: the cycle, which no SC run has; it may leap over events"),
-        entry(&rect("event stale", 3), "<b>dashed box</b>: the stale access, by an older write"),
-        entry(&rect("event start", 9), "<b>round box</b>: the starting write of a location"),
-    )
+    let others = [
+        entry(line("edge po cycle"), "bold", ": the cycle, which no SC run has; it may leap over events"),
+        entry(rect("event stale", 3), "dashed box", ": the stale access, by an older write"),
+        entry(rect("event start", 9), "round box", ": the starting write of a location"),
+    ];
+    let entries = LOOKS.iter().map(relation).chain(others);
+    element("ul").with("class", "legend").with("aria-label", "Legend").lines(entries)
 }
 
-fn entry(sample: &str, text: &str) -> String {
-    format!(
-        "<li><svg xmlns=\"http://www.w3.org/2000/svg\" class=\"sample\" viewBox=\"0 0 48 20\" width=\"48\" \
-         height=\"20\" aria-hidden=\"true\">{sample}</svg><span>{text}</span></li>\n"
-    )
+fn entry(sample: Element, term: &str, text: &str) -> Element {
+    let sample = element("svg")
+        .with("xmlns", "http://www.w3.org/2000/svg")
+        .with("class", "sample")
+        .with("viewBox", "0 0 48 20")
+        .with_all([("width", 48), ("height", 20)])
+        .with("aria-hidden", true)
+        .child(sample);
+    element("li").child(sample).child(element("span").child(element("b").text(term)).text(text))
 }
 
-fn line(class: &str) -> String {
-    format!(
-        "<g class=\"edge {class}\"><path class=\"way\" d=\"M2 10L38 10\" /><path class=\"head\" d=\"M46 10L36 5L36 \
-         15Z\" /></g>"
-    )
+fn line(class: &str) -> Element {
+    let way = element("path").with("class", "way").with("d", "M2 10L38 10");
+    let head = element("path").with("class", "head").with("d", "M46 10L36 5L36 15Z");
+    element("g").with("class", class).child(way).child(head)
 }
 
-fn rect(class: &str, radius: u8) -> String {
-    format!("<g class=\"{class}\"><rect x=\"2\" y=\"1\" width=\"44\" height=\"18\" rx=\"{radius}\" /></g>")
+fn rect(class: &str, radius: i32) -> Element {
+    let rect = element("rect").with_all([("x", 2), ("y", 1), ("width", 44), ("height", 18), ("rx", radius)]);
+    element("g").with("class", class).child(rect)
 }

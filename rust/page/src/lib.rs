@@ -4,12 +4,14 @@
 
 mod dot;
 mod drawn;
+mod element;
 mod escape;
 mod html;
 mod legend;
 mod picture;
 mod relations;
 mod steps;
+mod style;
 mod verdict;
 mod words;
 

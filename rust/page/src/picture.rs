@@ -16,6 +16,7 @@ mod wires;
 
 use std::ops::Range;
 
+use explain::Edge;
 use models::Source;
 
 use crate::drawn::{drawn, Drawn};
@@ -39,6 +40,7 @@ const MANY_ROWS: usize = 12;
 /// A graph, and where its parts stand.
 pub struct Picture<'a> {
     pub drawing: Drawing<'a>,
+    pub cycle: &'a [Edge],
     /// The box of each event.
     pub boxes: Vec<Rect>,
     /// The way of each edge that is drawn.
@@ -65,7 +67,7 @@ impl<'a> Picture<'a> {
         let bottom = boxes.iter().map(Rect::bottom).max().unwrap_or(0);
         let height = bottom + if is_long { 3 * GAP } else { 3 * GAP / 2 };
         let columns = frame.columns(STARTS_END + turns.height, height);
-        Picture { boxes, wires, columns, width: frame.width, height, is_long, drawing }
+        Picture { cycle: graph.cycle, boxes, wires, columns, width: frame.width, height, is_long, drawing }
     }
 }
 

@@ -23,8 +23,8 @@ pub fn head(report: &Report) -> &'static str {
 pub fn reason(source: &Source, report: &Report) -> String {
     match *report {
         Report::Robust { count } => format!(
-            "every release/acquire run ends in thread states and a graph that some SC run reaches too. It has {}, \
-             all searched.",
+            "every release/acquire run ends in thread states and a graph that some SC run reaches too. The \
+             model has {}, all searched.",
             situations(count)
         ),
         Report::NotRobust { steps, thread, kind, location, value, .. } => {
@@ -35,9 +35,10 @@ pub fn reason(source: &Source, report: &Report) -> String {
         Report::Short { wanted } => {
             format!("the trace is too short for the steps that show it, which need {wanted} bytes.")
         }
-        Report::Full { count } => {
-            format!("the table is full. There is no witness in the first {}, and there are more.", situations(count))
-        }
+        Report::Full { count } => format!(
+            "the table is full. There is no witness in the first {}, and there are more.",
+            situations(count)
+        ),
         Report::Refused { number } => format!("check {number} of the input failed first."),
         _ => format!("{report}."),
     }
@@ -63,39 +64,46 @@ fn stale(kind: Kind, name: &str, value: u8) -> String {
 mod tests {
     use super::{verdict, Kind, Report, Source};
 
-    #[test]
-    fn each_report_has_its_sentence() {
+    fn says(report: Report, words: &str) {
         let source = Source::of_text(b"values 2\nlocations flag turn\nthread").unwrap();
+        assert_eq!(verdict(&source, &report), words);
+    }
+
+    #[test]
+    fn each_stale_access_has_its_sentence() {
         let not_robust =
             |steps, kind| Report::NotRobust { count: 7, steps, thread: 2, kind, location: 1, value: 3 };
-        for (report, words) in [
-            (not_robust(3, Kind::Read), "Not robust: after these 3 steps thread 2 may read the old value 3 of turn."),
-            (
-                not_robust(1, Kind::Write),
-                "Not robust: after this 1 step thread 2 may place its write of turn directly after an older write of 3, \
-                 before the newest.",
-            ),
-            (
-                not_robust(2, Kind::Update),
-                "Not robust: after these 2 steps thread 2 may read the old value 3 of turn, and write turn directly \
-                 after it.",
-            ),
-            (
-                Report::Robust { count: 13 },
-                "Robust: every release/acquire run ends in thread states and a graph that some SC run reaches too. \
-                 It has 13 situations, all searched.",
-            ),
-            (
-                Report::Full { count: 1 },
-                "Undecided: the table is full. There is no witness in the first 1 situation, and there are more.",
-            ),
-            (
-                Report::Short { wanted: 12 },
-                "Not robust: the trace is too short for the steps that show it, which need 12 bytes.",
-            ),
-            (Report::Refused { number: 9 }, "No program: check 9 of the input failed first."),
-        ] {
-            assert_eq!(verdict(&source, &report), words);
-        }
+        says(
+            not_robust(3, Kind::Read),
+            "Not robust: after these 3 steps thread 2 may read the old value 3 of turn.",
+        );
+        says(
+            not_robust(1, Kind::Write),
+            "Not robust: after this 1 step thread 2 may place its write of turn directly after an older \
+             write of 3, before the newest.",
+        );
+        says(
+            not_robust(2, Kind::Update),
+            "Not robust: after these 2 steps thread 2 may read the old value 3 of turn, and write turn \
+             directly after it.",
+        );
+    }
+
+    #[test]
+    fn each_other_report_has_its_sentence() {
+        says(
+            Report::Robust { count: 13 },
+            "Robust: every release/acquire run ends in thread states and a graph that some SC run reaches \
+             too. The model has 13 situations, all searched.",
+        );
+        says(
+            Report::Full { count: 1 },
+            "Undecided: the table is full. There is no witness in the first 1 situation, and there are more.",
+        );
+        says(
+            Report::Short { wanted: 12 },
+            "Not robust: the trace is too short for the steps that show it, which need 12 bytes.",
+        );
+        says(Report::Refused { number: 9 }, "No program: check 9 of the input failed first.");
     }
 }

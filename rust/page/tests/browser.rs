@@ -58,6 +58,8 @@ fn open(browser: &Path, name: &str, html: &str) -> Seen {
         .stderr(File::create(&log).unwrap())
         .spawn();
     wait(child.unwrap_or_else(|error| panic!("{}: {error}", browser.display())), name);
+    // What it keeps there is of no use later; where it is still writing, some of it stays.
+    let _ = fs::remove_dir_all(&profile);
     let read = |file: &Path| String::from_utf8_lossy(&fs::read(file).unwrap()).into_owned();
     let console = read(&log).lines().filter(|line| line.contains("CONSOLE")).map(String::from).collect();
     Seen { dom: read(&dom), console }
@@ -93,7 +95,7 @@ fn is_shown(browser: &Path, reported: &Reported) {
     assert_eq!(shown, page::verdict(source, report), "{name}");
     let events = execution.as_ref().map_or(0, |execution| execution.events.len());
     for event in 0..events {
-        let start = format!("id=\"event-{event}\" role=\"img\">");
+        let start = format!("id=\"event-{event}\">");
         let drawn = between(&dom, &start, "</g>").unwrap_or_else(|| panic!("{name}: no box {event}"));
         for part in ["<title>", "<rect ", "class=\"access\"", "class=\"origin\""] {
             assert_eq!(drawn.matches(part).count(), 1, "{name}: {drawn}");

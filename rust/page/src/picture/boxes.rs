@@ -1,6 +1,6 @@
 //! Where the boxes of the events stand, from top to bottom too.
 
-use super::frame::Frame;
+use super::frame::{Frame, Span};
 use super::Drawing;
 
 pub const HEIGHT: i32 = 40;
@@ -42,7 +42,8 @@ pub fn boxes(drawing: &Drawing, frame: &Frame, turns: i32) -> Vec<Rect> {
             0 => 0,
             row => STARTS_END + turns + HEADING + GAP + (row - 1) * (HEIGHT + GAP),
         };
-        Rect { x: frame.left(drawing, event), y, width: frame.box_width, height: HEIGHT }
+        let Span { left, width } = frame.span(drawing, event);
+        Rect { x: left, y, width, height: HEIGHT }
     };
     drawing.events().map(rect).collect()
 }

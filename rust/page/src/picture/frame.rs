@@ -13,52 +13,49 @@ const SIGN: i32 = 8;
 const SMALL_SIGN: i32 = 6;
 const PADDING: i32 = 20;
 
+/// The least width of a box; a heading has room in it.
+const LEAST: i32 = 100;
+
 /// Room between a column's sides and its boxes.
 const MARGIN: i32 = 8;
+
+/// A part of the picture's width.
+#[derive(Clone, Copy)]
+pub struct Span {
+    pub left: i32,
+    pub width: i32,
+}
 
 /// Positions from left to right.
 pub struct Frame {
     pub width: i32,
-    /// The width of each box.
-    pub box_width: i32,
-    /// The left side of each column's boxes.
-    columns: Vec<i32>,
-    /// The left side of each starting write.
-    pub starts: Vec<i32>,
+    /// The boxes of each column.
+    columns: Vec<Span>,
+    /// The box of each starting write.
+    starts: Vec<Span>,
+    /// The left side of each gutter.
     gutters: Vec<i32>,
 }
 
 impl Frame {
     /// The positions with so many lanes in each gutter.
     pub fn of(drawing: &Drawing, lanes: &[usize]) -> Frame {
-        let box_width = box_width(drawing);
-        let starts_width = drawing.starts() as i32 * (box_width + 2 * LANE);
-        let gutter_width = |gutter: usize| match lanes[gutter] as i32 {
-            0 if gutter != 0 && gutter != drawing.threads() => 2 * LANE,
-            count => (count + 1) * LANE,
-        };
-        let all_gutters: i32 = (0..lanes.len()).map(gutter_width).sum();
-        let columns_width = all_gutters + drawing.threads() as i32 * box_width;
+        let starts: Vec<i32> = (0..drawing.starts()).map(|start| widest(drawing, start..=start)).collect();
+        let columns: Vec<i32> = (0..drawing.threads()).map(|thread| column_width(drawing, thread)).collect();
+        let gutters: Vec<i32> = (0..lanes.len()).map(|gutter| gutter_width(lanes, gutter)).collect();
+        let starts_width = starts.iter().map(|width| width + 2 * LANE).sum();
+        let columns_width: i32 = columns.iter().chain(&gutters).sum();
         let width = columns_width.max(starts_width);
-        let mut left = on_lane((width - columns_width) / 2);
-        let (mut gutters, mut columns) = (Vec::new(), Vec::new());
-        for gutter in 0..lanes.len() {
-            gutters.push(left);
-            columns.push(left + gutter_width(gutter));
-            left += gutter_width(gutter) + box_width;
-        }
-        columns.truncate(drawing.threads());
-        let share = width / drawing.starts().max(1) as i32;
-        let start = |start: usize| on_lane(start as i32 * share + (share - box_width) / 2);
-        Frame { width, box_width, columns, starts: (0..drawing.starts()).map(start).collect(), gutters }
+        let (gutters, columns) = beside(on_lane((width - columns_width) / 2), &gutters, &columns);
+        Frame { width, columns, starts: spread(width - starts_width, &starts), gutters }
     }
 
     /// The columns between two heights, a little wider than their boxes.
     pub fn columns(&self, top: i32, bottom: i32) -> Vec<Rect> {
-        let column = |&left: &i32| Rect {
-            x: left - MARGIN,
+        let column = |span: &Span| Rect {
+            x: span.left - MARGIN,
             y: top,
-            width: self.box_width + 2 * MARGIN,
+            width: span.width + 2 * MARGIN,
             height: bottom - top,
         };
         self.columns.iter().map(column).collect()
@@ -69,20 +66,56 @@ impl Frame {
         self.gutters[trunk.line.gutter] + (trunk.lane as i32 + 1) * LANE
     }
 
-    /// The left side of an event's box.
-    pub fn left(&self, drawing: &Drawing, event: usize) -> i32 {
+    /// Where an event's box stands.
+    pub fn span(&self, drawing: &Drawing, event: usize) -> Span {
         drawing.column(event).map_or_else(|| self.starts[event], |column| self.columns[column])
     }
 }
 
-/// All boxes are as wide as the longest text in one asks for.
-fn box_width(drawing: &Drawing) -> i32 {
+/// The boxes of a column are as wide as the longest text in one asks for.
+fn column_width(drawing: &Drawing, thread: usize) -> i32 {
+    widest(drawing, drawing.events().filter(|&event| drawing.column(event) == Some(thread)))
+}
+
+fn widest(drawing: &Drawing, events: impl IntoIterator<Item = usize>) -> i32 {
     let width = |event| {
         let [access, origin] = [drawing.words.access(event), drawing.words.origin(event)];
         let [access, origin] = [access, origin].map(|text| text.chars().count() as i32);
         (access * SIGN).max(origin * SMALL_SIGN) + PADDING
     };
-    on_lane(drawing.events().map(width).max().unwrap_or(0) + LANE - 1)
+    on_lane(events.into_iter().map(width).max().unwrap_or(0).max(LEAST) + LANE - 1)
+}
+
+/// Between two columns there is always room for a lane.
+fn gutter_width(lanes: &[usize], gutter: usize) -> i32 {
+    let is_outer = gutter == 0 || gutter + 1 == lanes.len();
+    (lanes[gutter].max(usize::from(!is_outer)) as i32 + 1) * LANE
+}
+
+/// Gutters and columns of these widths in turn, from this side on.
+fn beside(mut left: i32, gutters: &[i32], columns: &[i32]) -> (Vec<i32>, Vec<Span>) {
+    let (mut sides, mut spans) = (Vec::new(), Vec::new());
+    for (place, gutter) in gutters.iter().enumerate() {
+        sides.push(left);
+        left += gutter;
+        if let Some(&width) = columns.get(place) {
+            spans.push(Span { left, width });
+            left += width;
+        }
+    }
+    (sides, spans)
+}
+
+/// Starting writes of these widths, with so much room to spare between them.
+fn spread(spare: i32, widths: &[i32]) -> Vec<Span> {
+    let gap = 2 * LANE + on_lane(spare / widths.len().max(1) as i32);
+    let mut next = on_lane(gap / 2);
+    let span = |&width: &i32| {
+        let left = next;
+        next += width + gap;
+        Span { left, width }
+    };
+    widths.iter().map(span).collect()
 }
 
 /// The last multiple of the lanes' distance.

@@ -45,9 +45,9 @@ pub struct Ports(HashMap<(usize, Side), Vec<Port>>);
 impl Ports {
     pub fn of(drawing: &Drawing, trunks: &[Trunk]) -> Ports {
         let mut ports: HashMap<_, Vec<Port>> = HashMap::new();
-        let mut seen: Vec<(usize, Port)> = trunks.iter().flat_map(|trunk| seen(drawing, trunk)).collect();
-        seen.sort_by_key(|&(row, _)| row);
-        for (_, port) in seen {
+        let mut all: Vec<(usize, Port)> = trunks.iter().flat_map(|trunk| ends(drawing, trunk)).collect();
+        all.sort_by_key(|&(row, _)| row);
+        for (_, port) in all {
             let side = ports.entry((port.event, port.side)).or_default();
             if !side.contains(&port) {
                 side.push(port);
@@ -64,8 +64,8 @@ impl Ports {
     }
 }
 
-/// The ports of a trunk, each with the row where an edge at it has its other end.
-fn seen<'a>(drawing: &'a Drawing, trunk: &'a Trunk) -> impl Iterator<Item = (usize, Port)> + 'a {
+/// The ports of a trunk's edges, each with the row where the edge has its other end.
+pub fn ends<'a>(drawing: &'a Drawing, trunk: &'a Trunk) -> impl Iterator<Item = (usize, Port)> + 'a {
     trunk.edges.iter().flat_map(move |&at| {
         let edge = drawing.edges[at].edge;
         [(edge.from, edge.to, true), (edge.to, edge.from, false)]

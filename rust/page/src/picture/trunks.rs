@@ -76,7 +76,7 @@ fn is_left(drawing: &Drawing, column: usize) -> bool {
     2 * column < drawing.threads()
 }
 
-/// Gives each trunk of the gutter its lane, the shortest nearest to the middle, and counts the lanes.
+/// Gives each trunk of the gutter its lane, the shortest innermost, and counts the lanes.
 fn place(drawing: &Drawing, trunks: &mut [Trunk], gutter: usize) -> usize {
     let mut here: Vec<&mut Trunk> = trunks.iter_mut().filter(|trunk| trunk.line.gutter == gutter).collect();
     let stretches: Vec<(i32, i32)> = here.iter().map(|trunk| rows(drawing, trunk)).collect();

@@ -1,12 +1,12 @@
 //! The way of each edge.
 
-use std::collections::HashMap;
+use std::collections::{BTreeMap, HashMap};
 
 use super::boxes::{Rect, GAP, STARTS_END};
-use super::frame::{Frame, LANE};
+use super::frame::{Frame, Span, LANE};
 use super::lanes::lanes;
 use super::path::Point;
-use super::ports::{Port, Ports, Side};
+use super::ports::{ends, Port, Ports, Side};
 use super::trunks::{root_and_leaf, Trunk};
 use super::Drawing;
 
@@ -40,37 +40,28 @@ pub struct Turns {
 }
 
 impl Wiring<'_> {
+    /// A line from a starting write turns once, and then leads past all lanes of its trunks.
     pub fn turns(&self) -> Turns {
-        let mut stretches: Vec<(Port, (i32, i32))> = Vec::new();
-        for (port, lane) in self.trunks.iter().flat_map(|trunk| self.starting(trunk)) {
-            let x = self.below(&port);
-            let at = stretches.iter().position(|(known, _)| *known == port).unwrap_or(stretches.len());
-            if at == stretches.len() {
-                stretches.push((port, (x, x)));
+        let mut stretches: BTreeMap<(i32, usize), (Port, (i32, i32))> = BTreeMap::new();
+        for trunk in self.trunks {
+            let lane = self.frame.lane(trunk);
+            let starting = ends(self.drawing, trunk).filter(|(_, port)| port.side == Side::Below);
+            for (_, port) in starting {
+                let x = self.below(&port);
+                let known = stretches.entry((x, port.event)).or_insert((port, (x, x)));
+                known.1 = (known.1 .0.min(lane), known.1 .1.max(lane));
             }
-            let (from, to) = stretches[at].1;
-            stretches[at].1 = (from.min(lane), to.max(lane));
         }
-        let (ports, stretches): (Vec<Port>, Vec<(i32, i32)>) = stretches.into_iter().unzip();
+        let (ports, stretches): (Vec<Port>, Vec<(i32, i32)>) = stretches.into_values().unzip();
         let (found, count) = lanes(&stretches);
         let at = ports.into_iter().zip(found.into_iter().map(|lane| (lane as i32 + 1) * TURN)).collect();
         Turns { at, height: (count as i32 + 1) * TURN }
     }
 
-    /// The ports of a trunk below starting writes, each with the trunk's place.
-    fn starting<'a>(&'a self, trunk: &'a Trunk) -> impl Iterator<Item = (Port, i32)> + 'a {
-        let ports = trunk.edges.iter().flat_map(|&at| {
-            let edge = self.drawing.edges[at].edge;
-            [(edge.from, true), (edge.to, false)]
-                .map(|(event, leaves)| Port::of(self.drawing, trunk, event, leaves))
-        });
-        ports.filter(|port| port.side == Side::Below).map(|port| (port, self.frame.lane(trunk)))
-    }
-
     /// Where a port below a starting write is: between two lanes.
     fn below(&self, port: &Port) -> i32 {
-        let along = self.ports.offset(port, self.frame.box_width);
-        self.frame.starts[port.event] + along / LANE * LANE + LANE / 2
+        let Span { left, width } = self.frame.span(self.drawing, port.event);
+        left + self.ports.offset(port, width) / LANE * LANE + LANE / 2
     }
 
     /// The way of each edge that is drawn.

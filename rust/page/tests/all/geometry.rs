@@ -20,6 +20,10 @@ fn area_of([from, to]: Segment) -> Area {
     Area { x: span(from.0, to.0), y: span(from.1, to.1) }
 }
 
+fn is_upright([from, to]: Segment) -> bool {
+    from.0 == to.0
+}
+
 #[test]
 fn no_two_boxes_overlap() {
     for_each_picture(|name, drawing| {
@@ -85,14 +89,32 @@ fn each_edge_leads_from_its_box_to_its_other_box() {
 }
 
 #[test]
-fn no_edge_goes_through_a_box() {
+fn no_edge_goes_through_a_box_or_up_along_one() {
     for_each_picture(|name, drawing| {
         for edge in &drawing.edges {
-            for area in edge.segments().into_iter().map(area_of) {
+            for segment in edge.segments() {
+                let room = if is_upright(segment) { 10 } else { 0 };
                 for drawn in &drawing.boxes {
-                    assert!(!inside(&drawn.area).meets(&area), "{name}: {} {}", drawn.id, edge.title);
+                    let Area { x: [left, right], y } = inside(&drawn.area);
+                    let area = Area { x: [left - room, right + room], y };
+                    assert!(!area.meets(&area_of(segment)), "{name}: {} {}", drawn.id, edge.title);
                 }
             }
+        }
+    });
+}
+
+#[test]
+fn an_edge_between_two_columns_stays_between_them() {
+    for_each_picture(|name, drawing| {
+        for edge in &drawing.edges {
+            let [from, to] = [0, 1].map(|end| drawing.with_id(&edge.ends[end]));
+            if from.class == "event start" || from.area.x == to.area.x {
+                continue;
+            }
+            let [left, right] = [from.area.x[1].min(to.area.x[1]), from.area.x[0].max(to.area.x[0])];
+            let is_between = edge.line.iter().all(|(x, _)| (left..=right).contains(x));
+            assert!(is_between, "{name}: {}", edge.title);
         }
     });
 }
@@ -125,7 +147,6 @@ fn no_line_is_drawn_over_a_name() {
 
 /// Whether a line that is drawn otherwise lies along one of this edge's, and does not only cross it.
 fn lies_on(edge: &DrawnEdge, other: &DrawnEdge) -> bool {
-    let is_upright = |[from, to]: Segment| from.0 == to.0;
     edge.segments().into_iter().any(|one| {
         let others = other.segments().into_iter().filter(|&it| is_upright(it) == is_upright(one));
         others.map(area_of).any(|area| area.meets(&area_of(one)))

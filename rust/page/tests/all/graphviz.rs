@@ -17,16 +17,22 @@ fn the_graph_of_sb_is_this_one() {
     let sb = named("sb.order");
     let text = dot_of(sb);
     let lines: Vec<&str> = text.lines().map(str::trim).collect();
-    for start in [
-        "e0 [label=\"W x = 0\\nstarting write\", style=rounded, ",
-        "e3 [label=\"R y = 0\\nstep 2, line 8\", style=solid, ",
-        "e5 [label=\"R x = 0\\nstep 4, line 11\", style=dashed, ",
-        "e2 -> e3 [label=\"po\", color=\"#333333\", fontcolor=\"#333333\", style=solid, arrowhead=normal, penwidth=3, ",
-        "e1 -> e3 [label=\"rf\", color=\"#c8001e\", fontcolor=\"#c8001e\", style=dashed, arrowhead=normal, penwidth=1, ",
-        "e0 -> e2 [label=\"mo\", color=\"#1748d1\", fontcolor=\"#1748d1\", style=dotted, arrowhead=normal, penwidth=1, ",
-        "e5 -> e2 [label=\"fr\", color=\"#a35200\", fontcolor=\"#a35200\", style=solid, arrowhead=empty, penwidth=3, ",
+    let start = |line: &str| lines.iter().filter(|it| it.starts_with(line)).count();
+    for node in [
+        r#"e0 [label="W x = 0\nstarting write", style="rounded", "#,
+        r#"e3 [label="R y = 0\nstep 2, line 8", style="solid", "#,
+        r#"e5 [label="R x = 0\nstep 4, line 11", style="dashed", "#,
     ] {
-        assert_eq!(lines.iter().filter(|line| line.starts_with(start)).count(), 1, "{start}\n{text}");
+        assert_eq!(start(node), 1, "{node}\n{text}");
+    }
+    for (edge, colour, look) in [
+        (r#"e2 -> e3 [label="po""#, "#333333", r#"style="solid", arrowhead="normal", penwidth="3""#),
+        (r#"e1 -> e3 [label="rf""#, "#c8001e", r#"style="dashed", arrowhead="normal", penwidth="1""#),
+        (r#"e0 -> e2 [label="mo""#, "#1748d1", r#"style="dotted", arrowhead="normal", penwidth="1""#),
+        (r#"e5 -> e2 [label="fr""#, "#a35200", r#"style="solid", arrowhead="empty", penwidth="3""#),
+    ] {
+        let edge = format!(r#"{edge}, color="{colour}", fontcolor="{colour}", {look}, "#);
+        assert_eq!(start(&edge), 1, "{edge}\n{text}");
     }
     assert_eq!(lines.iter().filter(|line| line.starts_with("subgraph cluster_")).count(), 2);
 }
@@ -36,7 +42,7 @@ fn edge_of(line: &str) -> Option<(String, String, String, bool)> {
     let (ends, rest) = line.trim().split_once(" [label=\"")?;
     let (from, to) = ends.split_once(" -> ")?;
     let id = |node: &str| node.replace('e', "event-");
-    Some((id(from), id(to), rest[..2].into(), rest.contains("penwidth=3")))
+    Some((id(from), id(to), rest[..2].into(), rest.contains("penwidth=\"3\"")))
 }
 
 #[test]

@@ -2,6 +2,7 @@
 //! programs and of a crowded one, with the plain checker's reports.
 #![forbid(unsafe_code)]
 
+mod colours;
 mod drawing;
 mod edges;
 mod escaping;

@@ -128,8 +128,14 @@ fn each_part_of_the_picture_is_there_for_screen_readers() {
         "Execution graph: 53 accesses in 8 columns, one for each thread, below 8 starting writes"
     );
     assert_eq!(
-        graph.named("desc")[0].text().matches("in the cycle").count(),
-        named("crowd.order").cycle.len()
+        graph.named("desc")[0].text(),
+        [
+            "The cycle: from-read: from R f = 0 (step 53, thread 8, stale) to W f = 1 (step 50, thread 1)",
+            "program order: from W f = 1 (step 50, thread 1) to R g = 0 (step 51, thread 1)",
+            "from-read: from R g = 0 (step 51, thread 1) to W g = 1 (step 52, thread 8)",
+            "program order: from W g = 1 (step 52, thread 8) to R f = 0 (step 53, thread 8, stale)",
+        ]
+        .join("; ")
     );
     for part in graph.with_class("event").into_iter().chain(graph.with_class("edge")) {
         let title = part.elements().next().unwrap();

@@ -50,8 +50,8 @@ fn a_box_says_where_its_event_comes_from() {
             ("step 3, line 10", "Step 3 of thread 2, line 10 (y := 1): W y = 1"),
             (
                 "step 4, line 11",
-                "Step 4 of thread 2, line 11 (r0 := x): R x = 0. This is the stale access: it goes by an older write \
-                 than W x = 1 (step 1, thread 1), the newest.",
+                "Step 4 of thread 2, line 11 (r0 := x): R x = 0. This is the stale access: it goes by an \
+                 older write than W x = 1 (step 1, thread 1), the newest.",
             ),
         ]
     );

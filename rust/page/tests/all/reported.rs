@@ -68,8 +68,8 @@ fn crowd() -> Reported {
             _ => "",
         };
         format!(
-            "thread\n  wait(turn = {number})\n  {own} := {number}\n  r0 := FADD(e, 1)\n  r1 := {other}\n  r2 := {own}\n  \
-             turn := {}\n{end}",
+            "thread\n  wait(turn = {number})\n  {own} := {number}\n  r0 := FADD(e, 1)\n  r1 := {other}\n  \
+             r2 := {own}\n  turn := {}\n{end}",
             number + 1
         )
     };
