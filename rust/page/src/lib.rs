@@ -19,8 +19,19 @@ use answer::Report;
 use explain::{Edge, Execution};
 use models::Source;
 
+use element::element;
+use picture::{svg, Picture};
+use style::style;
+
 pub use dot::dot;
 pub use verdict::verdict;
+
+/// The picture of a graph alone, as a file of SVG with a style of its own.
+pub fn picture(source: &Source, graph: &Graph) -> String {
+    let ground = "svg { background: var(--ground); }\n";
+    let style = element("style").sheet(&format!("{}{ground}", style()));
+    format!("{}\n", svg(&Picture::of(source, graph)).child(style))
+}
 
 /// What a page shows.
 #[derive(Clone, Copy, Debug)]

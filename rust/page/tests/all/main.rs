@@ -10,6 +10,7 @@ mod geometry;
 mod graphviz;
 mod parts;
 mod picture;
+mod readme;
 mod reported;
 mod skip;
 mod xml;
