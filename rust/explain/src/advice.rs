@@ -2,7 +2,7 @@
 
 use program::Line;
 
-use crate::change::Change;
+use crate::change::{fence_location, free_register, Change};
 use crate::explanation::Explanation;
 use crate::table::{wrapped, KEPT};
 use crate::trial::{Trial, Verdict};
@@ -17,22 +17,45 @@ const VERDICTS: [(Verdict, &str, &str); 6] = [
     (Verdict::Untried, "not tried", ": enough others were"),
 ];
 
-const TITLE: &str =
-    "What would help, and what the checker says of the model with it (a fence is FADD of 0 on a \
-    location that only fences use):";
-
 impl Explanation {
     /// The changes, each with what the checker says of the model with it, and of equal verdicts the smallest first.
     pub(crate) fn what_would_help(&self) -> String {
         let mut trials = self.trials();
         trials.sort_by_key(|trial| self.places(trial).len());
-        let mut text = wrapped("", TITLE);
+        let fence = self.fence_in_words();
+        let title =
+            format!("What would help, and what the checker says of the model with it (a fence is {fence}):");
+        let mut text = wrapped("", &title);
         for (verdict, word, more) in VERDICTS {
             for trial in trials.iter().filter(|trial| trial.verdict == verdict) {
                 text += &wrapped(&format!("  {word:10}  "), &(self.advice(trial) + more));
             }
         }
         text
+    }
+
+    /// What was tried as a fence: `FADD(f, 0)`.
+    fn fence_in_words(&self) -> String {
+        let [fadd, bcas] = match self.fence_location() {
+            Some(name) => {
+                ["FADD(_, 0)", "BCAS(_, 0 -> 0)"].map(|fence| fence.replace(' ', KEPT).replace('_', name))
+            }
+            None => ["FADD of 0 on a new location that only fences use", "BCAS from 0 to 0 on it"]
+                .map(String::from),
+        };
+        let tried = self.help.fences.iter().chain([&self.help.enough]).flat_map(|trial| &trial.changes);
+        let threads = tried.map(|&change| &self.source.program.threads[thread_of(change)]);
+        if threads.map(|lines| free_register(lines)).any(|free| free.is_none()) {
+            format!("{fadd}, or {bcas} where no register is free")
+        } else {
+            fadd
+        }
+    }
+
+    /// The name of the location that fences use; none where it is a new one.
+    pub(crate) fn fence_location(&self) -> Option<&str> {
+        let location = fence_location(&self.source.program)?;
+        Some(&self.source.locations[usize::from(location)])
     }
 
     /// Those that the language has lines for, and last the others together.
@@ -118,5 +141,11 @@ impl Explanation {
             Some((last, others)) => format!("{} and {last}", others.join(", ")),
             None => String::new(),
         }
+    }
+}
+
+fn thread_of(change: Change) -> usize {
+    match change {
+        Change::Fence { thread, .. } | Change::Update { thread, .. } => thread,
     }
 }

@@ -38,8 +38,8 @@ pub struct Changed {
 /// The program with the changes; nothing where its limits leave no room, a line has no counterpart that is a
 /// read-modify-write, or there is no such line.
 ///
-/// There is no fence in the language yet: one is `FADD(f, 0)`, where f is a location of its own that all fences share.
-/// As a read-modify-write always comes directly after the write that it reads, each reads the one before it.
+/// There is no fence in the language yet: one is `FADD(f, 0)`, where f is the [`fence_location`] of the program or else a
+/// new one. As a read-modify-write always comes directly after the write that it reads, each reads the one before it.
 pub fn changed(program: &Program, changes: &[Change]) -> Option<Changed> {
     let mut threads = program.threads.clone();
     let mut fences = vec![BTreeSet::new(); threads.len()];
@@ -55,15 +55,46 @@ pub fn changed(program: &Program, changes: &[Change]) -> Option<Changed> {
             }
         }
     }
-    let location = program.locations;
+    let location = fence_location(program).unwrap_or(program.locations);
     let has_fence = fences.iter().any(|after| !after.is_empty());
-    let locations = location + u8::from(has_fence);
+    let locations = if has_fence { program.locations.max(location + 1) } else { program.locations };
     let fenced = threads.iter().zip(&fences).map(|(lines, after)| fenced(lines, after, location));
     let (threads, lines): (Vec<Vec<Line>>, _) = fenced.unzip();
     let fits = LOCATIONS.contains(&locations)
         && threads.iter().all(|lines| lines.len() <= usize::from(*LINES.end()));
     let program = Program { threads, locations, values: program.values };
     fits.then_some(Changed { program, lines })
+}
+
+/// The location of the program's own fences: the first that fences use and nothing else, or else the first that nothing
+/// uses; nothing where a fence needs a new one. Either is never anything but 0.
+pub fn fence_location(program: &Program) -> Option<u8> {
+    let accesses = |location| {
+        let lines = program.threads.iter().flatten();
+        lines.filter(move |line| location_of(line) == Some(location))
+    };
+    let own: Vec<u8> = (0..program.locations).filter(|&it| accesses(it).all(is_fence)).collect();
+    let used = own.iter().find(|&&location| accesses(location).next().is_some());
+    used.or(own.first()).copied()
+}
+
+/// Whether the line is a fence on a location that is never anything but 0.
+fn is_fence(line: &Line) -> bool {
+    const ZERO: Operand = Operand::Constant(0);
+    matches!(line, Line::Fadd { a: ZERO, .. } | Line::Bcas { a: ZERO, b: ZERO, .. })
+}
+
+/// The location of the access that a line makes, if it does.
+fn location_of(line: &Line) -> Option<u8> {
+    match *line {
+        Line::Write { location, .. }
+        | Line::Read { location, .. }
+        | Line::Fadd { location, .. }
+        | Line::Cas { location, .. }
+        | Line::Wait { location, .. }
+        | Line::Bcas { location, .. } => Some(location),
+        Line::Sum { .. } | Line::Equal { .. } | Line::Less { .. } | Line::Jump { .. } => None,
+    }
 }
 
 /// The read-modify-write that does what the line does and writes the value that it found; nothing where the language
@@ -104,11 +135,15 @@ fn moved(line: Line, after: &BTreeSet<usize>) -> Line {
 /// A fence: into a register that the thread does not use, or, where it uses all, as a BCAS, which needs none.
 fn fence(lines: &[Line], location: u8) -> Line {
     let zero = Operand::Constant(0);
-    let is_free = |reg: &u8| !lines.iter().any(|line| uses(line, *reg));
-    match (0..REGISTERS).find(is_free) {
+    match free_register(lines) {
         Some(reg) => Line::Fadd { reg, location, a: zero },
         None => Line::Bcas { location, a: zero, b: zero },
     }
+}
+
+/// The first register that the thread does not use.
+pub(crate) fn free_register(lines: &[Line]) -> Option<u8> {
+    (0..REGISTERS).find(|&reg| !lines.iter().any(|line| uses(line, reg)))
 }
 
 /// Whether the line reads or changes the register.

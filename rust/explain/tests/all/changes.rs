@@ -1,6 +1,6 @@
 //! Fences and read-modify-writes in a program.
 
-use explain::{changed, Change, Changed};
+use explain::{changed, fence_location, Change, Changed};
 use models::Source;
 use program::{Line, Operand, Program};
 
@@ -37,6 +37,41 @@ fn all_fences_share_a_location() {
         "x := 1\nr1 := FADD(f, 0)\nr0 := y\nr1 := FADD(f, 0)\nthread\ny := 1\nr1 := FADD(f, 0)\nr0 := x\n";
     let fences = [fence(1, 0), fence(0, 1), fence(0, 0), fence(0, 0)];
     assert_eq!(changed_program(&before, &fences), Some(program("x y f", after)));
+}
+
+#[test]
+fn fences_use_the_location_of_the_models_own_fences() {
+    let lines = |fence: &str| format!("x := 1\n{fence}r0 := y\nthread\nr0 := FADD(f, 0)\nBCAS(f, 0 -> 0)\n");
+    let before = program("f x y", &lines(""));
+    assert_eq!(fence_location(&before), Some(0));
+    let after = program("f x y", &lines("r1 := FADD(f, 0)\n"));
+    assert_eq!(changed_program(&before, &[fence(0, 0)]), Some(after));
+}
+
+#[test]
+fn a_location_with_any_other_access_is_none_for_fences() {
+    for line in [
+        "r0 := f",
+        "f := 0",
+        "r0 := FADD(f, 1)",
+        "r0 := FADD(f, r1)",
+        "r0 := CAS(f, 0 -> 1)",
+        "wait(f = 0)",
+        "BCAS(f, 0 -> 1)",
+        "BCAS(f, 1 -> 0)",
+        "BCAS(f, r0 -> 0)",
+    ] {
+        let program = program("x f", &format!("x := 1\nr3 := FADD(f, 0)\nthread\n{line}\n"));
+        assert_eq!(fence_location(&program), None, "{line}");
+    }
+}
+
+#[test]
+fn of_several_locations_for_fences_the_first_is_taken_that_has_some() {
+    let lines = "x := 1\nr0 := FADD(g, 0)\nr0 := FADD(h, 0)\n";
+    assert_eq!(fence_location(&program("e x g h", lines)), Some(2));
+    assert_eq!(fence_location(&program("x e f", "x := 1\n")), Some(1));
+    assert_eq!(fence_location(&program("x", "x := 1\n")), None);
 }
 
 #[test]
@@ -86,7 +121,8 @@ fn a_fence_without_a_free_register_is_a_bcas() {
 
 #[test]
 fn there_is_no_room_past_the_limits() {
-    let eight = program("a b c d e g h i", "a := 1\nr0 := b\n");
+    let others: String = ["c", "d", "e", "g", "h", "i"].map(|name| format!("{name} := 1\n")).concat();
+    let eight = program("a b c d e g h i", &format!("a := 1\nr0 := b\n{others}"));
     assert_eq!(changed(&eight, &[fence(0, 0)]), None);
     assert!(changed(&eight, &[Change::Update { thread: 0, line: 1 }]).is_some());
     let long = |lines: usize| program("x", &("x := 1\n".repeat(lines) + "if r0 goto end\nend:\n"));

@@ -85,6 +85,7 @@ fn the_trials_of_store_buffering_are_this_data() {
     let data = data(&explained(&model("sb")));
     let help = data.get("help");
     assert_eq!(help.number("checks"), Some(6));
+    assert_eq!(help.get("fence_location"), &Value::Word("null"));
     let verdicts =
         |name| help.get(name).items().iter().map(|trial| trial.text_of("verdict")).collect::<Vec<_>>();
     assert_eq!(verdicts("fences"), ["not_robust", "not_robust", "robust"]);
@@ -95,6 +96,12 @@ fn the_trials_of_store_buffering_are_this_data() {
     let update = help.get("updates").at(0).get("changes").at(0);
     assert_eq!(["thread", "line"].map(|name| update.number(name)), [1, 8].map(Some));
     assert_eq!(update.text_of("change"), "update");
+}
+
+#[test]
+fn the_location_of_fences_has_its_name() {
+    let data = data(&explained(&model("sb+rmw")));
+    assert_eq!(data.get("help").text_of("fence_location"), "f");
 }
 
 /// Every step, event and edge of every model, against the explanation.

@@ -126,7 +126,8 @@ fn a_checker_that_reports_nonsense_ends_the_search() {
 
 #[test]
 fn what_has_no_room_is_said_in_words() {
-    let text = "values 2\nlocations x y a b c d e f\nthread\nx := 1\nr0 := y\nthread\ny := 1\nr0 := x\n";
+    let text = "values 2\nlocations x y a b c d e f\nthread\nx := 1\nr0 := y\nthread\ny := 1\nr0 := x\n\
+        thread\na := 1\nb := 1\nc := 1\nd := 1\ne := 1\nf := 1\n";
     let explanation = explained(&of_source("eight", source(text)).unwrap());
     let Help { fences, enough, .. } = explanation.help();
     assert!(fences.iter().chain([enough]).all(|trial| trial.verdict == Verdict::NoRoom));

@@ -4,7 +4,9 @@
 mod changes;
 mod cycles;
 mod data;
+mod edits;
 mod flaws;
+mod followed;
 mod helps;
 mod reader;
 mod replay;

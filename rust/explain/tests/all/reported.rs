@@ -75,9 +75,13 @@ pub fn model(name: &str) -> Reported {
     of_model(collection::named(name).unwrap())
 }
 
+/// The text of the model of this name.
+pub fn text_of_model(name: &str) -> String {
+    std::fs::read_to_string(collection::directory().join(format!("{name}.order"))).unwrap()
+}
+
 fn of_model(model: Model) -> Reported {
-    let path = collection::directory().join(&model.name).with_extension("order");
-    let source = source(&std::fs::read_to_string(path).unwrap());
+    let source = source(&text_of_model(&model.name));
     of_source(&model.name, source).unwrap_or_else(|| panic!("{} is robust", model.name))
 }
 

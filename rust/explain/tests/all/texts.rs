@@ -26,7 +26,7 @@ No SC run can do this, as each of these would have to come before the next:
   3  thread 2  line 10  writes y = 1  program order    4  reads x = 0
 
 What would help, and what the checker says of the model with it (a fence is FADD
-of 0 on a location that only fences use):
+of 0 on a new location that only fences use):
   robust      fences after lines 7 and 10
   not robust  a fence between line 7 (x := 1) and line 8 (r0 := y)
   not robust  a fence between line 10 (y := 1) and line 11 (r0 := x)
