@@ -59,8 +59,10 @@ pub fn parse(arguments: Vec<String>) -> Result<Asked, String> {
             "--table" => {
                 once(&mut task.table, &argument, size(&value(&argument, "a size", &mut arguments)?)?)?
             }
-            "--html" => once(&mut task.html, &argument, value(&argument, "a file", &mut arguments)?)?,
-            "--dot" => once(&mut task.dot, &argument, value(&argument, "a file", &mut arguments)?)?,
+            "--html" => {
+                once(&mut task.html, &argument, value(&argument, "a file to write", &mut arguments)?)?
+            }
+            "--dot" => once(&mut task.dot, &argument, value(&argument, "a file to write", &mut arguments)?)?,
             "--" => task.files.extend(arguments.by_ref()),
             "-" => task.files.push(argument),
             "--help" | "-h" | "--version" => return Err(format!("{argument} stands alone")),
@@ -74,9 +76,13 @@ pub fn parse(arguments: Vec<String>) -> Result<Asked, String> {
     task.fits().map(|()| Asked::Task(task))
 }
 
-/// What follows an option.
+/// What follows an option. Another option does not.
 fn value(option: &str, what: &str, arguments: &mut impl Iterator<Item = String>) -> Result<String, String> {
-    arguments.next().ok_or_else(|| format!("expected {what} after {option}"))
+    match arguments.next() {
+        Some(value) if value == "-" || !value.starts_with('-') => Ok(value),
+        Some(value) => Err(format!("expected {what} after {option}, found {value}")),
+        None => Err(format!("expected {what} after {option}")),
+    }
 }
 
 /// An option that is given once.
@@ -102,8 +108,11 @@ impl Task {
 
     /// Whether its parts go together.
     fn fits(&self) -> Result<(), String> {
+        let instead = [&self.html, &self.dot].into_iter().flatten().filter(|file| *file == "-").count();
         if self.files.is_empty() {
             Err("expected a file, or - for standard input".into())
+        } else if instead > 1 || instead == 1 && self.show != Show::Report {
+            Err("only one thing can take the report's place".into())
         } else if self.files.iter().filter(|file| *file == "-").count() > 1 {
             Err("standard input can be read once".into())
         } else if self.draws() && self.files.len() > 1 {
@@ -131,9 +140,9 @@ impl Task {
 fn size(text: &str) -> Result<usize, String> {
     let wrong = || format!("expected a size such as 49152, 64K, 10M or 4G, found {text}");
     let (digits, unit) = match text.char_indices().last().ok_or_else(wrong)? {
-        (end, 'K') => (&text[..end], 1 << 10),
-        (end, 'M') => (&text[..end], 1 << 20),
-        (end, 'G') => (&text[..end], 1 << 30),
+        (end, 'K' | 'k') => (&text[..end], 1 << 10),
+        (end, 'M' | 'm') => (&text[..end], 1 << 20),
+        (end, 'G' | 'g') => (&text[..end], 1 << 30),
         _ => (text, 1_usize),
     };
     if !digits.starts_with(|first: char| first.is_ascii_digit()) {
@@ -156,6 +165,7 @@ mod tests {
             ("48K", 49_152),
             ("1_0M", 10 << 20),
             ("4G", 4 << 30),
+            ("2k", 2 << 10),
         ];
         for (text, bytes) in sizes {
             assert_eq!(size(text), Ok(bytes), "{text}");

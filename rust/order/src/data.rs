@@ -5,41 +5,59 @@ use explain::{Explanation, Json};
 
 use crate::decide::Decided;
 use crate::input::Input;
+use crate::words::refused;
 
 /// The version of order_check.h.
 const VERSION: &str = env!("CARGO_PKG_VERSION_MINOR");
 
 /// The report as an object.
 pub fn json(input: &Input, decided: &Decided, explanation: Option<&Explanation>) -> Json {
-    let Decided { report, steps, lent, time } = decided;
+    let Decided { report, steps, lent, time, .. } = decided;
     let line = report.to_string();
-    let verdict = line.split(' ').next().unwrap_or_default();
-    Json::Object(vec![
-        ("version", version()),
-        ("file", input.file.as_str().into()),
-        ("verdict", verdict.into()),
-        ("report", line.as_str().into()),
-        ("steps", Json::list(steps, |step| step.to_string().as_str().into())),
-        ("situations", situations(report)),
-        ("table_bytes", lent.table.into()),
-        ("index_bytes", lent.index.into()),
-        ("milliseconds", usize::try_from(time.as_millis()).unwrap_or(usize::MAX).into()),
-        ("explanation", explanation.map_or(Json::Null, Explanation::json)),
-    ])
+    let error = match report {
+        Report::Refused { number } => refused(input, *number).as_str().into(),
+        _ => Json::Null,
+    };
+    object(
+        &input.file,
+        [
+            line.split(' ').next().unwrap_or_default().into(),
+            line.as_str().into(),
+            Json::list(steps, |step| step.to_string().as_str().into()),
+            situations(report),
+            lent.table.into(),
+            lent.index.into(),
+            usize::try_from(time.as_millis()).unwrap_or(usize::MAX).into(),
+            explanation.map_or(Json::Null, Explanation::json),
+            error,
+        ],
+    )
 }
 
-/// What went wrong with a file, as an object.
+/// What went wrong with a file, as an object with the same members.
 pub fn error(file: &str, message: &str) -> Json {
-    Json::Object(vec![
-        ("version", version()),
-        ("file", file.into()),
-        ("verdict", Json::Null),
-        ("error", message.into()),
-    ])
+    let mut members = [const { Json::Null }; MEMBERS.len()];
+    members[MEMBERS.len() - 1] = message.into();
+    object(file, members)
 }
 
-fn version() -> Json {
-    VERSION.parse().map_or(Json::Null, Json::Number)
+/// The members, after those that all objects have.
+const MEMBERS: [&str; 9] = [
+    "verdict",
+    "report",
+    "steps",
+    "situations",
+    "table_bytes",
+    "index_bytes",
+    "milliseconds",
+    "explanation",
+    "error",
+];
+
+fn object(file: &str, members: [Json; MEMBERS.len()]) -> Json {
+    let version = VERSION.parse().map_or(Json::Null, Json::Number);
+    let first = [("version", version), ("file", file.into())];
+    Json::Object(first.into_iter().chain(MEMBERS.into_iter().zip(members)).collect())
 }
 
 fn situations(report: &Report) -> Json {

@@ -4,12 +4,13 @@ use std::time::{Duration, Instant};
 
 use answer::{Report, Step};
 use command::tell;
-use order_check::{check_in, tables, Checked, Lent};
+use order_check::{check_with_table, tables, Checked, Lent};
 
 use crate::arguments::Task;
 use crate::input::Input;
 use crate::memory::{available, limit, shown};
 use crate::printing;
+use crate::reached::{reached, Reached};
 
 /// A report and what it took.
 pub struct Decided {
@@ -20,22 +21,28 @@ pub struct Decided {
     pub lent: Lent,
     /// From the start of the first search to the end of the last.
     pub time: Duration,
+    /// For RB the lines that runs reach.
+    pub reached: Option<Reached>,
 }
+
+/// From here on a search of one file among several is spoken of.
+const LONG: Duration = Duration::from_millis(500);
 
 /// The report on a model in the one table of the task, or in larger and larger ones.
 pub fn decide(input: &Input, task: &Task) -> Result<Decided, String> {
     let start = Instant::now();
-    let Checked { report, steps, lent } = match task.table {
+    let (Checked { report, steps, lent }, table) = match task.table {
         Some(table) => in_one_table(input, table)?,
-        None => in_larger_tables(input, task.quiet, start)?,
+        None => in_larger_tables(input, task, start)?,
     };
     if let Report::Full { count } = report {
         tell(format!("order: {}", undecided(input, count, lent)));
     }
-    Ok(Decided { report, steps, lent, time: start.elapsed() })
+    let reached = input.source.as_ref().and_then(|source| reached(&source.program, &report, &table));
+    Ok(Decided { report, steps, lent, time: start.elapsed(), reached })
 }
 
-fn in_one_table(input: &Input, table: usize) -> Result<Checked, String> {
+fn in_one_table(input: &Input, table: usize) -> Result<Searched, String> {
     let asked = Lent::with_table(&input.bytes, table);
     match available() {
         Some(available) if asked.bytes() > available => Err(format!(
@@ -49,31 +56,32 @@ fn in_one_table(input: &Input, table: usize) -> Result<Checked, String> {
     }
 }
 
-fn in_larger_tables(input: &Input, quiet: bool, start: Instant) -> Result<Checked, String> {
-    let mut checked = in_first_table(input)?;
+fn in_larger_tables(input: &Input, task: &Task, start: Instant) -> Result<Searched, String> {
+    let mut searched = in_first_table(input)?;
     // The first of the tables is the printing program's.
     for next in tables(&input.bytes, limit()).skip(1) {
-        let Report::Full { count } = checked.report else {
+        let (Checked { report: Report::Full { count }, lent, .. }, _) = searched else {
             break;
         };
         if available().is_some_and(|available| next.bytes() > available) {
             break;
         }
-        if !quiet {
-            tell(format!("order: {}", progress(input, count, checked.lent, next, start.elapsed())));
+        // Of several files only those that take their time are spoken of.
+        if !task.quiet && (task.files.len() == 1 || start.elapsed() >= LONG) {
+            tell(format!("order: {}", progress(input, count, lent, next, start.elapsed())));
         }
-        checked = check(input, next)?;
+        searched = check(input, next)?;
     }
-    Ok(checked)
+    Ok(searched)
 }
 
 /// The printing program's report, which must be the library's in a table of the same length.
-fn in_first_table(input: &Input) -> Result<Checked, String> {
+fn in_first_table(input: &Input) -> Result<Searched, String> {
     let (report, steps) = printing::report(&input.bytes)?;
     let lent = Lent { table: printing::TABLE, index: 0 };
-    let expected = check(input, Lent::with_table(&input.bytes, printing::TABLE))?;
+    let (expected, table) = check(input, Lent::with_table(&input.bytes, printing::TABLE))?;
     if (report, &steps) == (expected.report, &expected.steps) {
-        return Ok(Checked { report, steps, lent });
+        return Ok((Checked { report, steps, lent }, table));
     }
     Err(format!(
         "{}: the printing program reports {report}, and the library {} with as long a table: they are not of one build",
@@ -81,19 +89,28 @@ fn in_first_table(input: &Input) -> Result<Checked, String> {
     ))
 }
 
-fn check(input: &Input, lent: Lent) -> Result<Checked, String> {
-    check_in(&input.bytes, lent).map_err(|error| format!("{}: {error}", input.name))
+/// A search, and the table that it left.
+type Searched = (Checked, Vec<u8>);
+
+fn check(input: &Input, lent: Lent) -> Result<Searched, String> {
+    check_with_table(&input.bytes, lent).map_err(|error| format!("{}: {error}", input.name))
 }
 
 /// What is said between two tables.
 fn progress(input: &Input, count: usize, lent: Lent, next: Lent, time: Duration) -> String {
     format!(
-        "{}: no witness in {count} situations ({}, {}); going on with {}",
+        "{}: no witness in {} ({}, {}); going on with {}",
         input.name,
+        situations(count),
         shown(lent.bytes()),
         seconds(time),
         shown(next.bytes()),
     )
+}
+
+/// So many situations.
+pub fn situations(count: usize) -> String {
+    format!("{count} situation{}", if count == 1 { "" } else { "s" })
 }
 
 /// A time for people.
@@ -108,9 +125,10 @@ pub fn seconds(time: Duration) -> String {
 /// What is said where a table did not suffice and there is no other.
 fn undecided(input: &Input, count: usize, lent: Lent) -> String {
     format!(
-        "{}: undecided: no witness in {count} situations, and there are more than a table of {} holds. \
+        "{}: undecided: no witness in {}, and there are more than a table of {} holds. \
          Try a longer one (--table {}), or a smaller model: fewer threads, rounds, values or locations",
         input.name,
+        situations(count),
         shown(lent.table),
         longer(lent.table),
     )

@@ -8,6 +8,7 @@ mod draw;
 mod input;
 mod memory;
 mod printing;
+mod reached;
 mod reason;
 mod show;
 mod status;
@@ -44,7 +45,8 @@ fn run(task: &Task) -> Result<Status, Unwritten> {
             Ok((text, status)) => written(&text).map(|()| status)?,
             Err(message) => {
                 if task.show == Show::Json {
-                    written(&format!("{}\n", data::error(file, &message)))?;
+                    let message = message.strip_prefix("order: ").unwrap_or(&message);
+                    written(&format!("{}\n", data::error(file, message)))?;
                 }
                 tell(message);
                 Status::Failed

@@ -1,5 +1,7 @@
 //! What is shown of a model.
 
+use std::io::{self, IsTerminal};
+
 use answer::Report;
 use command::tell;
 use explain::Explanation;
@@ -12,14 +14,12 @@ use crate::draw::draw;
 use crate::input::Input;
 use crate::reason::explanation;
 use crate::status::Status;
-use crate::words::{check, effort, meaning};
+use crate::words::{effort, gaps, meaning, refused};
 
 /// The text for standard output and the status, or what went wrong.
 pub fn shown(input: &Input, task: &Task) -> Result<(String, Status), String> {
     let decided = decide(input, task)?;
-    if let Report::Refused { number } = decided.report {
-        tell(format!("order: {}: no program: check {number} failed: {}", input.name, check(number)));
-    }
+    tell_beside(input, &decided, task);
     let text = match task.show {
         Show::Expected => return as_expected(input, &decided.report),
         Show::Report if !task.draws() && task.files.len() > 1 => named(input, &decided.report),
@@ -27,6 +27,27 @@ pub fn shown(input: &Input, task: &Task) -> Result<(String, Status), String> {
         _ => with_reasons(input, &decided, task)?,
     };
     Ok((text, Status::of(&decided.report)))
+}
+
+/// What is said on standard error of a report.
+fn tell_beside(input: &Input, decided: &Decided, task: &Task) {
+    let say = |message: String| tell(format!("order: {}: {message}", input.name));
+    if let Report::Refused { number } = decided.report {
+        say(format!("no program: {}", refused(input, number)));
+    }
+    if task.show == Show::Words {
+        return;
+    }
+    if let Some(gaps) = input.source.as_ref().and_then(|source| gaps(source, decided)) {
+        say(gaps);
+    }
+    if task.verbose {
+        say(effort(decided).trim_end().into());
+    }
+    let at_terminal = io::stdout().is_terminal() && io::stderr().is_terminal();
+    if at_terminal && task.show == Show::Report && matches!(decided.report, Report::NotRobust { .. }) {
+        say("--explain says why".into());
+    }
 }
 
 /// The lines of the printing program.

@@ -1,36 +1,31 @@
 //! What a verdict means, in words.
 
 use answer::Report;
+use explain::fence_location;
+use models::Source;
 use program::{Line, Operand, Program};
 
-use crate::decide::{seconds, Decided};
+use crate::decide::{seconds, situations, Decided};
 use crate::input::Input;
 use crate::memory::shown;
+use crate::reached::unreached;
 
 /// What a report means that has no graph; nothing for a verdict that is not known.
 pub fn meaning(input: &Input, decided: &Decided) -> String {
     match (&decided.report, &input.source) {
-        (Report::Robust { .. }, Some(source)) => robust(&source.program),
+        (Report::Robust { .. }, Some(source)) => robust(source, decided),
         (Report::Full { count }, _) => full(*count, decided),
-        (Report::Refused { number }, _) => {
-            format!("No program: check {number} failed: {}.\n", check(*number))
-        }
+        (Report::Refused { number }, _) => format!("No program: {}.\n", refused(input, *number)),
         _ => String::new(),
     }
 }
 
 /// What RB allows, and what it does not speak of.
-fn robust(program: &Program) -> String {
-    let Program { values, .. } = program;
-    let sums = if program.threads.iter().flatten().any(is_counting) {
-        format!(
-            "- Sums wrap: they are modulo {values}, the number of values. What a counter does that\n  \
-             counts past {} is not in this model.\n",
-            values - 1
-        )
-    } else {
-        String::new()
-    };
+fn robust(source: &Source, decided: &Decided) -> String {
+    let fences = fence_location(&source.program).map_or(String::new(), |location| {
+        let line = format!("fences: FADD({}, 0)", source.locations[usize::from(location)]);
+        format!("    {line:<48} stay seq_cst fences\n")
+    });
     format!(
         "Robust: every release/acquire run of this model, of any length, ends in thread\n\
          states and an execution graph that some sequentially consistent run reaches too.\n\
@@ -40,13 +35,62 @@ fn robust(program: &Program) -> String {
          stores: x := 1                                   to release\n    \
          loads: r0 := x, wait(x = 1), a CAS that fails    to acquire\n    \
          read-modify-writes: FADD, CAS, BCAS              to acquire and release\n\
+         {fences}\
          \n\
          What this does not say:\n\
          \n\
          - The model is what was checked: is it what your routine does?\n\
          - Every access of the model is atomic. Plain data is outside.\n\
-         {sums}"
+         {}{}",
+        sums(&source.program),
+        gaps(source, decided).map_or(String::new(), |gaps| item(&format!("In this model {gaps}.")))
     )
+}
+
+/// An item of a list, in lines of at most 80 columns.
+fn item(text: &str) -> String {
+    let mut lines = vec![String::from("-")];
+    for word in text.split(' ') {
+        let last = lines.last_mut().expect("the first one");
+        if last.chars().count() + 1 + word.chars().count() <= 80 {
+            *last += &format!(" {word}");
+        } else {
+            lines.push(format!("  {word}"));
+        }
+    }
+    lines.join("\n") + "\n"
+}
+
+/// What wraps, if anything does.
+fn sums(program: &Program) -> String {
+    let Program { values, .. } = program;
+    if !program.threads.iter().flatten().any(is_counting) {
+        return String::new();
+    }
+    format!(
+        "- Sums wrap: they are modulo {values}, the number of values. What a counter does that\n  \
+         counts past {} is not in this model.\n",
+        values - 1
+    )
+}
+
+/// The parts of a robust model that no run comes to, if there are any: a mistyped value may be to blame.
+pub fn gaps(source: &Source, decided: &Decided) -> Option<String> {
+    let (never, stuck) = unreached(source, decided.reached.as_ref()?);
+    let never = (!never.is_empty()).then(|| format!("no run reaches {}", lines(&never)));
+    let stuck = (!stuck.is_empty()).then(|| format!("a thread waits for ever at {}", lines(&stuck)));
+    let parts: Vec<String> = [stuck, never].into_iter().flatten().collect();
+    (!parts.is_empty()).then(|| format!("{}: nothing is said of what would come then", parts.join(", and ")))
+}
+
+/// `line 3`, `lines 3 and 5`, `lines 3, 5 and 7`.
+fn lines(numbers: &[usize]) -> String {
+    let shown: Vec<String> = numbers.iter().map(usize::to_string).collect();
+    match shown.split_last() {
+        Some((last, [])) => format!("line {last}"),
+        Some((last, others)) => format!("lines {} and {last}", others.join(", ")),
+        None => String::new(),
+    }
 }
 
 /// Whether the line has a sum that can wrap.
@@ -61,8 +105,9 @@ fn is_counting(line: &Line) -> bool {
 
 fn full(count: usize, decided: &Decided) -> String {
     format!(
-        "Undecided: there is no witness in the first {count} situations, and there are more\n\
+        "Undecided: there is no witness in the first {}, and there are more\n\
          than the table of {} has places for. Nothing is said about the model.\n",
+        situations(count),
         shown(decided.lent.table)
     )
 }
@@ -76,25 +121,36 @@ pub fn effort(decided: &Decided) -> String {
     };
     let Decided { lent, time, .. } = decided;
     format!(
-        "{count} situations in a table of {} and an index of {}, {}.\n",
+        "{} in a table of {} and an index of {}, {}.\n",
+        situations(count),
         shown(lent.table),
         shown(lent.index),
         seconds(*time)
     )
 }
 
+/// Why the bytes are no program.
+pub fn refused(input: &Input, number: u8) -> String {
+    let taken = if number == 1 && !input.bytes.starts_with(b"PR") {
+        " (it has a byte 0, and so was not taken for text)"
+    } else {
+        ""
+    };
+    format!("check {number} failed, {}{taken}", check(number))
+}
+
 /// What a check of document 01 asks, as docs/FORMAT.md lists them.
-pub fn check(number: u8) -> &'static str {
+fn check(number: u8) -> &'static str {
     match number {
-        1 => "the input starts with a whole PR record",
-        2 => "T is 1 to 8, L is 1 to 8, K is 2 to 16",
-        3 => "the record that is due stands there, whole and with its mark",
-        4 => "a thread has at most 64 lines",
-        5 => "the op is 1 to 10",
-        6 => "a used register is 0 to 3, and every unused field is 0",
-        7 => "a used target is in range",
-        8 => "each used operand is in range",
-        9 => "the input ends after the last record",
-        _ => "a check of a later version",
+        1 => "the input must start with a whole PR record",
+        2 => "T must be 1 to 8, L 1 to 8 and K 2 to 16",
+        3 => "the record that is due must stand there, whole and with its mark",
+        4 => "a thread must have at most 64 lines",
+        5 => "the op must be 1 to 10",
+        6 => "a used register must be 0 to 3, and every unused field 0",
+        7 => "a used target must be in range",
+        8 => "each used operand must be in range",
+        9 => "the input must end after the last record",
+        _ => "which is one of a later version",
     }
 }

@@ -120,6 +120,15 @@ pub fn check_growing(program: &[u8], limit: usize) -> Result<Checked, NoMemory> 
 ///
 /// As [`check`](crate::check()) does.
 pub fn check_in(program: &[u8], lent: Lent) -> Result<Checked, NoMemory> {
+    check_with_table(program, lent).map(|(checked, _)| checked)
+}
+
+/// The same, with the table as the search left it: `docs/LAYOUT.md` has the bytes of its places.
+///
+/// # Panics
+///
+/// As [`check`](crate::check()) does.
+pub fn check_with_table(program: &[u8], lent: Lent) -> Result<(Checked, Vec<u8>), NoMemory> {
     let steps = (lent.table / place_size_of(program)).saturating_mul(Step::BYTES);
     let memory = || Some((zeros(lent.table)?, zeros(steps)?, zeros(lent.index / SLOT)?));
     let (mut table, mut trace, mut index) = memory().ok_or(NoMemory { asked: lent })?;
@@ -130,7 +139,7 @@ pub fn check_in(program: &[u8], lent: Lent) -> Result<Checked, NoMemory> {
         }
         _ => Vec::new(),
     };
-    Ok(Checked { report, steps, lent })
+    Ok((Checked { report, steps, lent }, table))
 }
 
 /// So many zeros, if there is memory for them. The system hands it out only where it is used.

@@ -35,7 +35,7 @@
 mod grow;
 
 pub use answer::{steps_in, Access, EightNumbers, Kind, Report, Step};
-pub use grow::{check_growing, check_in, tables, Checked, Lent, NoMemory};
+pub use grow::{check_growing, check_in, check_with_table, tables, Checked, Lent, NoMemory};
 pub use program::place_size;
 
 /// Checks program bytes in the lent table.

@@ -23,9 +23,10 @@ fn a_text_and_its_bytes_get_the_same_report() {
 #[test]
 fn what_is_no_program_gets_its_number_and_words() {
     for (bytes, number, words) in [
-        (&b"PR"[..], 1, "starts with a whole PR record"),
-        (b"PR\x09\x01\x02TH\x00", 2, "T is 1 to 8"),
-        (b"PR\x01\x01\x02TH\x00\n", 9, "ends after the last record"),
+        (&b"PR"[..], 1, "the input must start with a whole PR record\n"),
+        (b"v\0", 1, "(it has a byte 0, and so was not taken for text)"),
+        (b"PR\x09\x01\x02TH\x00", 2, "T must be 1 to 8"),
+        (b"PR\x01\x01\x02TH\x00\n", 9, "must end after the last record"),
     ] {
         let said = ends(&run(&["-"], bytes), 1, &format!("NO {number}\n"));
         assert!(said.starts_with(&format!("order: standard input: no program: check {number}")), "{said}");

@@ -79,6 +79,7 @@ fn a_wrong_command_line_is_2() {
         (&["-x", "sb.order"], "-x is no option"),
         (&["--tabel", "4G", "sb.order"], "--tabel is no option"),
         (&["sb.order", "--table"], "expected a size after --table"),
+        (&["--table", "--json", "sb.order"], "expected a size after --table, found --json"),
         (&["--table", "4T", "sb.order"], "expected a size such as 49152, 64K, 10M or 4G, found 4T"),
         (&["-", "-"], "standard input can be read once"),
         (&["--table", "1", "--table=2", "sb.order"], "expected one --table"),

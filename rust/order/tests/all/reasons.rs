@@ -64,14 +64,40 @@ fn robust_is_explained_by_what_it_allows() {
 }
 
 #[test]
+fn fences_stay_fences() {
+    let text = printed(&["--explain", "page-queue.order"], b"", 0);
+    assert!(
+        text.contains("    fences: FADD(f, 0)                               stay seq_cst fences\n"),
+        "{text}"
+    );
+    assert!(!printed(&["--explain", "page-queue-cas.order"], b"", 0).contains("fence"));
+}
+
+#[test]
+fn what_no_run_reaches_is_named() {
+    // Store buffering that never begins.
+    let model =
+        "values 3\nlocations go x y\nthread\n  wait(go = 2)\n  x := 1\n  r0 := y\nthread\n  wait(go = 2)\n\
+        \x20 y := 1\n  r0 := x\nthread\n  go := 1\n";
+    let gaps = "a thread waits for ever at lines 4 and 8, and no run reaches lines 5, 6, 9 and 10: \
+        nothing is said of what would come then";
+    let said = ends(&run(&["-"], model.as_bytes()), 0, "RB 2\n");
+    assert_eq!(said, format!("order: standard input: {gaps}\n"));
+    let text = printed(&["--explain", "-"], model.as_bytes(), 0);
+    assert!(text.replace("\n  ", " ").ends_with(&format!("- In this model {gaps}.\n")), "{text}");
+    assert!(text.lines().all(|line| line.chars().count() <= 80), "{text}");
+    ends_quietly(&run(&["mp.order"], b""), 0, "RB 13\n");
+}
+
+#[test]
 fn undecided_and_refused_are_explained_too() {
     let output = run(&["--explain", "--table", "100", "mp.order"], b"");
     let text = String::from_utf8(output.stdout).unwrap();
-    assert!(text.starts_with("FU 1\n\nUndecided: there is no witness in the first 1 situations"), "{text}");
+    assert!(text.starts_with("FU 1\n\nUndecided: there is no witness in the first 1 situation, "), "{text}");
     let output = run(&["--explain", "-"], b"PR");
     assert_eq!(output.status.code(), Some(1));
     let text = String::from_utf8(output.stdout).unwrap();
-    assert_eq!(text, "NO 1\n\nNo program: check 1 failed: the input starts with a whole PR record.\n");
+    assert_eq!(text, "NO 1\n\nNo program: check 1 failed, the input must start with a whole PR record.\n");
 }
 
 #[test]
@@ -98,12 +124,10 @@ fn each_file_is_a_line_of_data() {
         lines[0].contains("\"explanation\":{\"format\":1,") && lines[0].contains("\"cycle\":[{\"from\":"),
         "{text}"
     );
+    assert!(lines[1].starts_with(&start("missing.order", "null")), "{text}");
     assert!(
-        lines[1].starts_with(&(start("missing.order", "null") + "\"error\":\"order: missing.order: ")),
-        "{text}"
-    );
-    assert!(
-        lines[2].starts_with(&start("mp.order", "\"RB\"")) && lines[2].ends_with("\"explanation\":null}"),
+        lines[2].starts_with(&start("mp.order", "\"RB\""))
+            && lines[2].ends_with("\"explanation\":null,\"error\":null}"),
         "{text}"
     );
 }
@@ -137,7 +161,10 @@ fn a_page_that_can_not_be_written_is_a_failure() {
     let said = ends(&run(&["--dot", "/dev/full", "mp.order"], b""), 1, "");
     assert!(said.starts_with("order: /dev/full: "), "{said}");
     for (arguments, what) in [
-        (&["--html"][..], "expected a file after --html"),
+        (&["--html"][..], "expected a file to write after --html"),
+        (&["--html", "--explain", "sb.order"], "expected a file to write after --html, found --explain"),
+        (&["--html", "-", "--dot", "-", "sb.order"], "only one thing can take the report's place"),
+        (&["--dot", "-", "--json", "sb.order"], "only one thing can take the report's place"),
         (&["--html", "a", "sb.order", "mp.order"], "--html and --dot are for one model"),
         (&["--dot", "a", "--expect", "sb.order"], "--expect goes with neither --html nor --dot"),
     ] {

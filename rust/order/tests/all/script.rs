@@ -9,9 +9,9 @@ use std::process::Command;
 use crate::user::{checker, ends, ends_quietly, finish, folder, SB, SB_LINES};
 
 /// What the script uses of the system, beside what builds.
-const TOOLS: [&str; 15] = [
+const TOOLS: [&str; 16] = [
     "bash", "cat", "cp", "dirname", "env", "find", "mkdir", "mktemp", "mv", "readlink", "rm", "sed", "sh",
-    "tee", "touch",
+    "tac", "tee", "touch",
 ];
 
 /// A tree with the script, and with all that it builds unless `bare`.
@@ -115,6 +115,10 @@ fn a_closed_output_is_a_failure_with_a_message() {
 #[test]
 fn a_missing_tool_is_named_with_where_it_comes_from() {
     let tree = Tree::new("no-tools", true);
+    tree.write("rust/Cargo.toml", "version = \"1.2.3\"\n");
+    tree.write("rust/order/src/help.txt", "the help\n");
+    ends_quietly(&finish(&mut tree.shell("./order --version"), b""), 0, "order 1.2.3\n");
+    ends_quietly(&finish(&mut tree.shell("./order --help"), b""), 0, "the help\n");
     let said = ends(&finish(&mut tree.shell("./order sb"), b""), 1, "");
     assert_eq!(
         said,
@@ -129,6 +133,7 @@ fn a_missing_tool_is_named_with_where_it_comes_from() {
 #[test]
 fn what_is_missing_is_built_crate_by_crate() {
     let tree = Tree::new("builds", true);
+    tree.write("crates.txt", "# NAME: what it stands on\na:\nb:\norder_check: a\norder_check_c:\n");
     tree.copy(&checker(), "made/order_check");
     tree.copy(Path::new(env!("CARGO_BIN_EXE_order")), "made/order");
     let rt = "cat; case $1 in
@@ -140,9 +145,9 @@ fn what_is_missing_is_built_crate_by_crate() {
     let said = ends(&finish(&mut tree.shell("./order - < sb"), b""), 10, SB_LINES);
     let lines = [
         "proving and building the checker",
-        "  a proved in 3 s",
+        "  1 of 2: a proved in 3 s",
         "building the library",
-        "  b proved in 0 s",
+        "  1 of 1: b proved in 0 s",
     ];
     for line in lines {
         assert!(said.contains(&format!("order: {line}")), "{said}");
