@@ -6,7 +6,7 @@ use crate::cursor::Cursor;
 use crate::instruction::{all_registers, Scope};
 use crate::lexer::Piece::{self, Number, Sign, Stray, Word};
 use crate::mistake::Mistake;
-use crate::names::{is_kept_for_registers, Kind, KEYWORDS};
+use crate::names::{is_kept_for_registers, register_name, Kind, KEYWORDS};
 use crate::nearest::nearest;
 
 /// The mistake with a hint, if there is one.
@@ -54,6 +54,9 @@ fn sign(before: &[Piece], rest: &[Piece]) -> Option<String> {
             "compare in a line of its own: 'r1 := r0 = 2', then 'if r1 goto ..'"
         }
         ([Word("if")], [Sign("("), ..]) => "'if' takes a value or a register, without brackets",
+        ([Word("wait"), Sign("("), _], [Sign("<") | Stray('!' | '>'), ..]) => {
+            "a wait is for one value; where several will do, write a loop: read, compare, jump back"
+        }
         ([.., Sign("=")], [Sign("="), ..]) => "a comparison has one '='",
         ([Word(word)], [Sign("="), ..]) if !KEYWORDS.contains(word) => "':=' assigns, '=' compares",
         ([.., Sign("<")], [Sign("="), ..]) => {
@@ -83,20 +86,41 @@ fn access(before: &[Piece], rest: &[Piece], scope: &Scope) -> Option<String> {
             Some(format!("a register gets the value found: 'r0 := {op}(..)'"))
         }
         ([_, Sign(":=")], [Word(op @ ("BCAS" | "wait")), ..]) => Some(format!("'{op}' stands without ':='")),
-        ([Word(x), Sign(":=")], [Word(y), Sign("+"), a, ..]) if x == y => {
-            Some(format!("write 'r0 := FADD({x}, {})', or read '{x}' into a register first", a.text()?))
+        ([Word(x), Sign(":=")], [Word(y), Sign("+"), a, ..]) if x == y && !is_location(a) => {
+            sum(x, *a, scope)
+        }
+        ([Word("wait" | "BCAS"), .., last], [y, ..]) if comes_operand(last) && is_location(y) => {
+            Some(format!("read {y} into a register first; if each round reads it anew, write a loop instead"))
         }
         ([.., last], [y, ..]) if comes_operand(last) && is_location(y) => {
             Some(format!("read {y} into a register first, in a line of its own"))
         }
-        ([Word(reg), Sign(":="), x], [Sign("+" | "=" | "<") | Stray('-'), ..]) if is_location(x) => {
-            Some(format!("a read stands alone: write '{reg} := {}', and go on with {reg}", x.text()?))
+        ([Word(reg), Sign(":="), x], [Sign("+" | "=" | "<") | Stray('-'), a, ..]) if is_location(x) => {
+            Some(read(reg, x, *a, scope))
         }
         ([x, Sign(":="), _], [Sign("+" | "=" | "<") | Stray('-'), ..]) if is_location(x) => {
             Some("work the value out in a register first".into())
         }
         _ => None,
     }
+}
+
+/// For `x := x + a`. In C that is no atomic step: an FADD in its place would be stronger.
+fn sum(x: &str, a: Piece, scope: &Scope) -> Option<String> {
+    let reg = register_name(if scope.register_of(a) == Some(0) { 1 } else { 0 });
+    let a = a.text()?;
+    Some(format!(
+        "write '{reg} := {x}', '{reg} := {reg} + {a}' and '{x} := {reg}', on three lines; \
+         if it is one atomic step, '{reg} := FADD({x}, {a})'"
+    ))
+}
+
+/// For `reg := x + a`, and for a difference or a comparison.
+fn read(reg: &str, x: &Piece, a: Piece, scope: &Scope) -> String {
+    if scope.register_of(a) == scope.register_of(Word(reg)) {
+        return format!("a read stands alone: read {x} into another register first");
+    }
+    format!("a read stands alone: write '{reg} := {}', and go on with {reg}", x.text().unwrap_or_default())
 }
 
 /// Values that are too large, and differences.

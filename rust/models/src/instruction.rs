@@ -158,7 +158,11 @@ impl<'a> Scope<'a> {
     }
 
     fn register_at(&self, cursor: &Cursor<'a>) -> Option<u8> {
-        let piece = cursor.peek().piece;
+        self.register_of(cursor.peek().piece)
+    }
+
+    /// The register that the piece names, by its number or by a name of the text.
+    pub fn register_of(&self, piece: Piece) -> Option<u8> {
         let named = self.names.find(Kind::Register, piece);
         named.or(if let Piece::Word(word) = piece { register(word) } else { None })
     }

@@ -2,9 +2,8 @@
 
 use std::fmt;
 
-use program::limits::LONGEST_INPUT;
-
-use crate::mistake::{Mistake, Place};
+use crate::mistake::Place;
+use crate::text::shown;
 
 /// A piece of a text.
 #[derive(Clone, Copy, Debug, PartialEq, Eq)]
@@ -26,7 +25,7 @@ impl fmt::Display for Piece<'_> {
         match self {
             Piece::Word(text) | Piece::Number(text) => write!(f, "'{text}'"),
             Piece::Sign(text) => write!(f, "'{text}'"),
-            Piece::Stray(character) => write!(f, "{character:?}"),
+            Piece::Stray(character) => f.write_str(&shown(*character)),
             Piece::EndOfLine => write!(f, "the end of the line"),
             Piece::EndOfFile => write!(f, "the end of the file"),
         }
@@ -42,45 +41,13 @@ pub struct Token<'a> {
     pub offset: usize,
 }
 
-/// Where a text starts.
-const START: Place = Place { line: 1, column: 1 };
-
 /// The signs, a longer one before its own start.
 const SIGNS: &[&str] = &[":=", ":", "->", "+", "=", "<", "(", ")", ",", "*"];
-
-/// What some editors put in front of a text in UTF-8; it is no part of the text.
-const BYTE_ORDER_MARK: &[u8] = "\u{feff}".as_bytes();
-
-/// The bytes as text. More of them than a model has are not looked at.
-pub fn text_of(bytes: &[u8]) -> Result<&str, Mistake> {
-    if bytes.len() > LONGEST_INPUT {
-        return Err(Mistake {
-            place: START,
-            expected: "a text of at most 1 MiB".into(),
-            found: format!("one of {} bytes", bytes.len()),
-            hint: None,
-        });
-    }
-    let bytes = bytes.strip_prefix(BYTE_ORDER_MARK).unwrap_or(bytes);
-    std::str::from_utf8(bytes).map_err(|error| {
-        let (good, bad) = bytes.split_at(error.valid_up_to());
-        let last_line = good.rsplit(|&b| b == b'\n').next().unwrap_or_default();
-        Mistake {
-            place: Place {
-                line: good.iter().filter(|&&b| b == b'\n').count() + 1,
-                column: String::from_utf8_lossy(last_line).chars().count() + 1,
-            },
-            expected: "text in UTF-8".into(),
-            found: format!("the byte {}", bad[0]),
-            hint: None,
-        }
-    })
-}
 
 /// All tokens of the text; the last is the end of the file, and only that one is.
 pub fn tokens(text: &str) -> Vec<Token<'_>> {
     let mut tokens = Vec::new();
-    let mut place = START;
+    let mut place = Place::START;
     let mut rest = text;
     while let Some(first) = rest.chars().next() {
         let (piece, length) = piece_at(rest, first);
@@ -106,6 +73,7 @@ fn piece_at(text: &str, first: char) -> (Option<Piece<'_>>, usize) {
     }
     match first {
         '\n' => (Some(Piece::EndOfLine), 1),
+        // A CR stands before LF only.
         ' ' | '\t' | '\r' => (None, 1),
         '#' => (None, run(|c| c != '\n')),
         '0'..='9' => {

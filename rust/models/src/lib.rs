@@ -15,10 +15,12 @@ mod names;
 mod nearest;
 mod parser;
 mod source;
+mod text;
 
 pub use disassemble::disassemble;
 pub use mistake::{Mistake, Place};
 pub use source::{Source, Statement};
+pub use text::is_hidden;
 
 /// The program bytes of a model, or its first mistake.
 pub fn assemble(text: &[u8]) -> Result<Vec<u8>, Mistake> {

@@ -20,6 +20,9 @@ Where the input has a mistake, a message goes to standard error, nothing else is
 and the exit status is 1. It is 2 where the command line has one. An input of more than
 1 MiB is refused.
 
+A text is in UTF-8, and its lines end with LF, or with CR and LF. Other control characters
+than tab are mistakes, and so are characters that editors hide, also in comments.
+
 A model:
 
     # store buffering

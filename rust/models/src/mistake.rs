@@ -11,6 +11,17 @@ pub struct Place {
     pub column: usize,
 }
 
+impl Place {
+    /// Where a text starts.
+    pub(crate) const START: Place = Place { line: 1, column: 1 };
+
+    /// Where the text goes on after this start of it.
+    pub(crate) fn after(start: &str) -> Place {
+        let last_line = start.rsplit('\n').next().unwrap_or_default();
+        Place { line: start.matches('\n').count() + 1, column: last_line.chars().count() + 1 }
+    }
+}
+
 impl fmt::Display for Place {
     fn fmt(&self, f: &mut fmt::Formatter) -> fmt::Result {
         write!(f, "{}:{}", self.line, self.column)

@@ -2,7 +2,8 @@
 
 use program::Program;
 
-use crate::{disassemble, lexer, parser, Mistake};
+use crate::text::text_of;
+use crate::{disassemble, parser, Mistake};
 
 /// A program with the names and the lines of the text that it was read from.
 #[derive(Clone, Debug, PartialEq, Eq)]
@@ -27,7 +28,7 @@ pub struct Statement {
 impl Source {
     /// The model that a text is, or its first mistake.
     pub fn of_text(text: &[u8]) -> Result<Source, Mistake> {
-        parser::parse(lexer::text_of(text)?)
+        parser::parse(text_of(text)?)
     }
 
     /// Program bytes as the model that they disassemble to, or the number of the first check of document 01 that they

@@ -53,6 +53,9 @@ const SCRAPS: &[&str] = &[
     "\t",
     "é",
     "@",
+    "\r",
+    "\u{2028}",
+    "\u{feff}",
 ];
 
 /// Removes, doubles, moves or replaces a piece of the text, where pieces stand between blanks.

@@ -36,10 +36,10 @@ fn search(text: &str) -> (Verdict, usize) {
 
 #[test]
 fn every_model_in_a_document_gets_the_verdict_that_it_expects() {
-    for path in ["docs/MODELLING.md", "models/README.md"] {
+    for (path, count) in [("docs/MODELLING.md", 3), ("models/README.md", 2)] {
         let text = document(path);
         let models = models_in(&text);
-        assert_eq!(models.len(), 2, "{path}");
+        assert_eq!(models.len(), count, "{path}");
         for model in models {
             assert_eq!(collection::expected(model), Ok(search(model).0), "{path}:\n{model}");
         }
@@ -56,6 +56,34 @@ fn the_reader_that_polls_has_more_situations_than_the_one_that_waits() {
     let said =
         format!("It has {} situations, and {} with `wait(ready = 1)`", search(polling).1, search(&waiting).1);
     assert!(text.contains(&said), "{said}");
+}
+
+#[test]
+fn only_both_fences_together_are_too_many() {
+    let text = document("docs/MODELLING.md");
+    let fence = "  r3 := FADD(f, 0)\n";
+    let parts: Vec<_> = models_in(&text)[1].split(fence).collect();
+    let [start, middle, end] = parts[..] else { panic!("{parts:?}") };
+    for (first, second) in [("", ""), (fence, ""), ("", fence)] {
+        assert_eq!(search(&[start, first, middle, second, end].concat()).0, Verdict::Robust);
+    }
+}
+
+/// Message passing by an exchange in each thread. The two are ordered, as one of them reads the other.
+#[test]
+fn an_exchange_as_it_is_written_is_better_than_with_a_load() {
+    let text = document("docs/MODELLING.md");
+    let row = text.lines().find(|line| line.starts_with("| `v = atomic_exchange(&x, n)`")).unwrap();
+    let lines: Vec<_> = row.split('`').skip(3).step_by(2).collect();
+    let exchange = |first: &str| {
+        format!("again:\n{first}\n{}\nr1 := r1 = r0\nr1 := r1 = 0\nif r1 goto again\n", lines[1])
+    };
+    let passing = |first: &str| {
+        let exchange = exchange(first);
+        search(&format!("values 2\nlocations x y\nthread\ny := 1\n{exchange}thread\n{exchange}r0 := y\n")).0
+    };
+    assert_eq!(passing(lines[0]), Verdict::Robust);
+    assert_eq!(passing("r0 := x"), Verdict::NotRobust);
 }
 
 #[test]
@@ -88,7 +116,7 @@ fn the_lines_beside_c11_are_lines() {
     let rows = text.lines().skip_while(|line| !line.starts_with("| C11 |")).skip(2);
     let lines: Vec<_> =
         rows.map_while(|row| row.strip_prefix("| ")?.split(" | ").nth(1)?.split('`').nth(1)).collect();
-    assert_eq!(lines.len(), 9);
+    assert_eq!(lines.len(), 10);
     for line in lines {
         let model = format!("values 3\nlocations x l f\nthread\n{line}\n");
         assert!(assemble(model.as_bytes()).is_ok(), "{line}");

@@ -50,7 +50,18 @@ fn comparisons_of_other_languages() {
     lines("there is no '>': for a > b write 'r0 := b < a'", &["r0 := r1 > 2"]);
     lines(
         "there is no '!=': for a != b write 'r0 := a = b', then 'r0 := r0 = 0'",
-        &["r0 := r1 != 2", "wait(x != 0)"],
+        &["r0 := r1 != 2", "mine := 1 != full"],
+    );
+    lines(
+        "a wait is for one value; where several will do, write a loop: read, compare, jump back",
+        &[
+            "wait(x != 0)",
+            "wait(x < 2)",
+            "again2: wait(x <= 1)",
+            "wait(x > 0)",
+            "wait(x >= full)",
+            "wait(x ! 1)",
+        ],
     );
     lines(
         "compare in a line of its own: 'r1 := r0 = 2', then 'if r1 goto ..'",
@@ -79,15 +90,45 @@ fn accesses_of_other_forms() {
 #[test]
 fn a_line_makes_one_access() {
     let first = "read 'flag' into a register first, in a line of its own";
-    lines(first, &["x := flag", "if flag goto again", "wait(x = flag)", "r0 := CAS(x, flag -> 1)"]);
-    lines(first, &["r0 := 1 + flag", "r0 := FADD(x, flag)", "x := flag + 1"]);
-    lines("write 'r0 := FADD(x, 1)', or read 'x' into a register first", &["x := x + 1"]);
+    lines(first, &["x := flag", "if flag goto again", "r0 := CAS(x, flag -> 1)", "r0 := CAS(x, 0 -> flag)"]);
+    lines(first, &["r0 := 1 + flag", "r0 := FADD(x, flag)", "x := flag + 1", "flag := flag + x"]);
+    let anew = "read 'flag' into a register first; if each round reads it anew, write a loop instead";
+    lines(anew, &["wait(x = flag)", "BCAS(x, flag -> 1)", "BCAS(x, 0 -> flag)"]);
     lines(
         "a read stands alone: write 'r0 := x', and go on with r0",
-        &["r0 := x + 1", "r0 := x = 1", "r0 := x - 1"],
+        &["r0 := x + 1", "r0 := x = 1", "r0 := x - 1", "r0 := x + r1"],
     );
     lines("a read stands alone: write 'mine := x', and go on with mine", &["mine := x < 1"]);
+    lines("a read stands alone: read 'x' into another register first", &["r0 := x + r0", "r0 := x - mine"]);
     lines("work the value out in a register first", &["x := r0 + 1", "x := 1 = full", "x := 2 - 1"]);
+}
+
+/// In C `x = x + 1` is a load and a store: a model with one access in their place would have fewer runs.
+#[test]
+fn a_sum_in_place_is_three_lines_unless_it_is_atomic() {
+    let three = |reg: &str, a: &str| {
+        format!(
+            "write '{reg} := x', '{reg} := {reg} + {a}' and 'x := {reg}', on three lines; \
+             if it is one atomic step, '{reg} := FADD(x, {a})'"
+        )
+    };
+    lines(&three("r0", "1"), &["x := x + 1", "end: x := x + 1"]);
+    lines(&three("r0", "full"), &["x := x + full"]);
+    lines(&three("r0", "r1"), &["x := x + r1"]);
+    // The register that is added must not be read into.
+    lines(&three("r1", "r0"), &["x := x + r0"]);
+    lines(&three("r1", "mine"), &["x := x + mine"]);
+}
+
+#[test]
+fn what_a_hint_offers_in_quotes_assembles() {
+    let hint = line("x := x + mine").unwrap();
+    let offered: Vec<_> = hint.split('\'').skip(1).step_by(2).collect();
+    assert_eq!(offered.len(), 4);
+    for line in offered {
+        let text = format!("values 3\nlocations x\nregisters mine = r0\nthread\n{line}\n");
+        assert!(assemble(text.as_bytes()).is_ok(), "{line}");
+    }
 }
 
 #[test]

@@ -185,34 +185,6 @@ fn a_long_list_of_labels_is_cut() {
 fn places_count_characters() {
     expect_line("\tx := 1 # äöü\n  é", &format!("5:3: expected {START}, found 'é'"));
     expect_line("x := 1 \u{e9}", "4:8: expected the end of the line, found 'é'");
-    expect_line("x := 1\u{7}", "4:7: expected the end of the line, found '\\u{7}'");
-}
-
-#[test]
-fn a_text_is_utf_8() {
-    let mistake = |bytes: &[u8]| assemble(bytes).map_err(|mistake| mistake.to_string());
-    assert_eq!(mistake(b"\xff"), Err("1:1: expected text in UTF-8, found the byte 255".into()));
-    let marked = [b"\xef\xbb\xbf# \xff".as_slice()].concat();
-    assert_eq!(mistake(&marked), Err("1:3: expected text in UTF-8, found the byte 255".into()));
-    let late = "values 2\n# ä".bytes().chain([0xc3]).collect::<Vec<_>>();
-    assert_eq!(mistake(&late), Err("2:4: expected text in UTF-8, found the byte 195".into()));
-}
-
-#[test]
-fn a_byte_order_mark_in_front_is_no_part_of_the_text() {
-    let text = "values 2\nlocations x\nthread\nx := 1\n";
-    let marked = format!("\u{feff}{text}");
-    assert_eq!(assemble(marked.as_bytes()), assemble(text.as_bytes()));
-    expect("\u{feff}  thread", "1:3: expected 'values', found 'thread'");
-    expect("\u{feff}\u{feff}", "1:1: expected 'values', found '\\u{feff}'");
-}
-
-#[test]
-fn a_text_has_at_most_1_mib() {
-    let model = "values 2\nlocations x\nthread\n#";
-    let text = |length: usize| format!("{model}{}", " ".repeat(length - model.len()));
-    assert!(assemble(text(LONGEST_INPUT).as_bytes()).is_ok());
-    expect(&text(LONGEST_INPUT + 1), "1:1: expected a text of at most 1 MiB, found one of 1048577 bytes");
 }
 
 /// Names are found without going through all of them, which would take much longer than this.

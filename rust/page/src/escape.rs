@@ -1,5 +1,7 @@
 //! Any text in HTML.
 
+use models::is_hidden;
+
 /// The text with nothing in it that HTML reads as its own, for elements and attributes. A character that would not be
 /// seen, or would turn the text around, is shown by its number.
 pub fn escaped(text: &str) -> String {
@@ -16,16 +18,6 @@ pub fn escaped(text: &str) -> String {
         }
     }
     escaped
-}
-
-/// Control characters, marks without width, the marks for the direction of a text, and what is no character.
-fn is_hidden(character: char) -> bool {
-    match character {
-        '\n' | '\t' => false,
-        '\u{61c}' | '\u{200b}'..='\u{200f}' | '\u{2028}'..='\u{202e}' | '\u{2060}'..='\u{206f}' => true,
-        '\u{feff}' | '\u{fffe}' | '\u{ffff}' => true,
-        other => other.is_control(),
-    }
 }
 
 #[cfg(test)]
