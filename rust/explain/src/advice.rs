@@ -91,12 +91,12 @@ impl Explanation {
         match places[..] {
             [Change::Fence { thread, after, before }] => {
                 let [after, before] = [after, before].map(|line| self.line(thread, line));
-                format!("a fence between {after} and {before}")
+                format!("a fence directly after {after}, before {before}")
             }
             [Change::Update { thread, line }] => {
                 format!("{} in place of {}", self.update(thread, line), self.line(thread, line))
             }
-            [Change::Fence { .. }, ..] => format!("fences after lines {}", self.lines(&places)),
+            [Change::Fence { .. }, ..] => format!("fences directly after lines {}", self.lines(&places)),
             _ if trial.verdict == Verdict::NoLine => {
                 format!("atomic exchanges in place of the writes in lines {}", self.lines(&places))
             }

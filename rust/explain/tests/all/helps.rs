@@ -59,7 +59,7 @@ fn a_fence_that_is_not_needed_is_left_out() {
     assert_eq!(fences.last(), Some(&Trial { changes: all, verdict: Verdict::Robust }));
     assert_eq!(*enough, Trial { changes: vec![fence(0, 0), fence(2, 0)], verdict: Verdict::Robust });
     let words = explanation.words(false);
-    let best = "  robust      fences after lines 4 and 10\n  robust      fences after lines 4, 7 and 10\n";
+    let best = "  robust      fences directly after lines 4 and 10\n  robust      fences directly after lines 4, 7 and 10\n";
     assert!(words.contains(best), "{words}");
 }
 
@@ -132,7 +132,10 @@ fn what_has_no_room_is_said_in_words() {
     let Help { fences, enough, .. } = explanation.help();
     assert!(fences.iter().chain([enough]).all(|trial| trial.verdict == Verdict::NoRoom));
     let words = explanation.words(false);
-    assert!(words.contains("not tried   a fence between line 4 (x := 1) and line 5 (r0 := y)"), "{words}");
+    assert!(
+        words.contains("not tried   a fence directly after line 4 (x := 1), before line 5 (r0 := y)"),
+        "{words}"
+    );
 }
 
 /// Threads that are written once share their lines: a change of a line is one of each of them.
@@ -150,7 +153,7 @@ fn a_line_that_threads_share_is_changed_in_all_of_them() {
     assert_eq!(fences[0].changes, shared);
     assert_eq!(fences[1].changes, alone);
     assert_eq!(*enough, Trial { changes: [shared, alone].concat(), verdict: Verdict::Robust });
-    assert!(explanation.words(false).contains("robust      fences after lines 4 and 7\n"));
+    assert!(explanation.words(false).contains("robust      fences directly after lines 4 and 7\n"));
 }
 
 #[test]
