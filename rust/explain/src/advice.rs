@@ -11,7 +11,7 @@ use crate::trial::{Trial, Verdict};
 const VERDICTS: [(Verdict, &str, &str); 6] = [
     (Verdict::Robust, "robust", ""),
     (Verdict::NotRobust, "not robust", ""),
-    (Verdict::Undecided, "undecided", ": the checker came to no end"),
+    (Verdict::Undecided, "undecided", ": the table of the quick check was too small"),
     (Verdict::NoRoom, "not tried", ": the limits of a model leave no room"),
     (Verdict::NoLine, "not tried", ": the language has none"),
     (Verdict::Untried, "not tried", ": enough others were"),

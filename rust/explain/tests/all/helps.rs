@@ -109,7 +109,10 @@ fn a_checker_that_does_not_decide_is_believed() {
     assert!(fences.iter().chain([enough]).all(|trial| trial.verdict == Verdict::Undecided));
     assert!(updates[..3].iter().all(|trial| trial.verdict == Verdict::Undecided));
     assert_eq!(*checks, 6);
-    assert!(explanation.words(false).contains("undecided"));
+    let undecided =
+        "\n  undecided   fences directly after lines 7 and 10: the table of the quick check\n              \
+        was too small\n";
+    assert!(explanation.words(false).contains(undecided), "{}", explanation.words(false));
 }
 
 /// What is not robust whatever is changed, and a report that is not on the changed model, end the search.
