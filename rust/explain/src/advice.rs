@@ -11,7 +11,7 @@ use crate::trial::{Trial, Verdict};
 const VERDICTS: [(Verdict, &str, &str); 6] = [
     (Verdict::Robust, "robust", ""),
     (Verdict::NotRobust, "not robust", ""),
-    (Verdict::Undecided, "undecided", ": the checker came to no end"),
+    (Verdict::Undecided, "undecided", ": the table of the quick check was too small"),
     (Verdict::NoRoom, "not tried", ": the limits of a model leave no room"),
     (Verdict::NoLine, "not tried", ": the language has none"),
     (Verdict::Untried, "not tried", ": enough others were"),
@@ -91,12 +91,12 @@ impl Explanation {
         match places[..] {
             [Change::Fence { thread, after, before }] => {
                 let [after, before] = [after, before].map(|line| self.line(thread, line));
-                format!("a fence between {after} and {before}")
+                format!("a fence directly after {after}, before {before}")
             }
             [Change::Update { thread, line }] => {
                 format!("{} in place of {}", self.update(thread, line), self.line(thread, line))
             }
-            [Change::Fence { .. }, ..] => format!("fences after lines {}", self.lines(&places)),
+            [Change::Fence { .. }, ..] => format!("fences directly after lines {}", self.lines(&places)),
             _ if trial.verdict == Verdict::NoLine => {
                 format!("atomic exchanges in place of the writes in lines {}", self.lines(&places))
             }

@@ -33,11 +33,12 @@ impl Explanation {
     ///   fences that makes the model robust, or else of the last set that was tried; `fence_location`, the name of the
     ///   location of the model that fences use, `null` for a new one; `checks`, how often the checker was asked.
     ///
-    /// A trial has `changes`, which are made together, and `verdict`: `"robust"`, `"not_robust"`, `"undecided"`, or,
-    /// where the checker was not asked, `"no_room"` (the limits of a model), `"no_line"` (the language has none) or
-    /// `"untried"` (enough others were). A change has `change` and `thread`. A `"fence"` has `after_line`, the line
-    /// that it comes directly after, and `before_line`, that of the later access; an `"update"`, a read-modify-write
-    /// in place of an access, has `line`. Threads that share lines of the text are changed together.
+    /// A trial has `changes`, which are made together, and `verdict`: `"robust"`, `"not_robust"`, `"undecided"` (the
+    /// table of the quick check was full), or, where the checker was not asked, `"no_room"` (the limits of a model),
+    /// `"no_line"` (the language has none) or `"untried"` (enough others were). A change has `change` and `thread`. A
+    /// `"fence"` has `after_line`, where it goes: directly after that line; and `before_line`, which is only the later
+    /// access that it is meant for. An `"update"`, a read-modify-write in place of an access, has `line`. Threads that
+    /// share lines of the text are changed together.
     pub fn json(&self) -> Json {
         let execution = &self.execution;
         let ids = |order: &Vec<usize>| Json::list(order.iter().copied(), Json::from);

@@ -17,7 +17,7 @@ pub enum Checked {
         /// Its steps.
         steps: Vec<Step>,
     },
-    /// It said neither, for want of places or of time.
+    /// It said neither: its table was full.
     Undecided,
 }
 
@@ -37,7 +37,7 @@ pub enum Verdict {
     Robust,
     /// The checker says that it is not.
     NotRobust,
-    /// The checker was asked and said neither.
+    /// The checker was asked and said neither: its table was full.
     Undecided,
     /// It was not tried: the limits of programs leave no room for the change.
     NoRoom,

@@ -59,7 +59,7 @@ fn a_fence_that_is_not_needed_is_left_out() {
     assert_eq!(fences.last(), Some(&Trial { changes: all, verdict: Verdict::Robust }));
     assert_eq!(*enough, Trial { changes: vec![fence(0, 0), fence(2, 0)], verdict: Verdict::Robust });
     let words = explanation.words(false);
-    let best = "  robust      fences after lines 4 and 10\n  robust      fences after lines 4, 7 and 10\n";
+    let best = "  robust      fences directly after lines 4 and 10\n  robust      fences directly after lines 4, 7 and 10\n";
     assert!(words.contains(best), "{words}");
 }
 
@@ -109,7 +109,10 @@ fn a_checker_that_does_not_decide_is_believed() {
     assert!(fences.iter().chain([enough]).all(|trial| trial.verdict == Verdict::Undecided));
     assert!(updates[..3].iter().all(|trial| trial.verdict == Verdict::Undecided));
     assert_eq!(*checks, 6);
-    assert!(explanation.words(false).contains("undecided"));
+    let undecided =
+        "\n  undecided   fences directly after lines 7 and 10: the table of the quick check\n              \
+        was too small\n";
+    assert!(explanation.words(false).contains(undecided), "{}", explanation.words(false));
 }
 
 /// What is not robust whatever is changed, and a report that is not on the changed model, end the search.
@@ -132,7 +135,10 @@ fn what_has_no_room_is_said_in_words() {
     let Help { fences, enough, .. } = explanation.help();
     assert!(fences.iter().chain([enough]).all(|trial| trial.verdict == Verdict::NoRoom));
     let words = explanation.words(false);
-    assert!(words.contains("not tried   a fence between line 4 (x := 1) and line 5 (r0 := y)"), "{words}");
+    assert!(
+        words.contains("not tried   a fence directly after line 4 (x := 1), before line 5 (r0 := y)"),
+        "{words}"
+    );
 }
 
 /// Threads that are written once share their lines: a change of a line is one of each of them.
@@ -150,7 +156,7 @@ fn a_line_that_threads_share_is_changed_in_all_of_them() {
     assert_eq!(fences[0].changes, shared);
     assert_eq!(fences[1].changes, alone);
     assert_eq!(*enough, Trial { changes: [shared, alone].concat(), verdict: Verdict::Robust });
-    assert!(explanation.words(false).contains("robust      fences after lines 4 and 7\n"));
+    assert!(explanation.words(false).contains("robust      fences directly after lines 4 and 7\n"));
 }
 
 #[test]

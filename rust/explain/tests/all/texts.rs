@@ -27,9 +27,9 @@ No SC run can do this, as each of these would have to come before the next:
 
 What would help, and what the checker says of the model with it (a fence is FADD
 of 0 on a new location that only fences use):
-  robust      fences after lines 7 and 10
-  not robust  a fence between line 7 (x := 1) and line 8 (r0 := y)
-  not robust  a fence between line 10 (y := 1) and line 11 (r0 := x)
+  robust      fences directly after lines 7 and 10
+  not robust  a fence directly after line 7 (x := 1), before line 8 (r0 := y)
+  not robust  a fence directly after line 10 (y := 1), before line 11 (r0 := x)
   not robust  FADD(y, 0) in place of line 8 (r0 := y)
   not robust  FADD(x, 0) in place of line 11 (r0 := x)
   not robust  read-modify-writes in place of lines 8 and 11
@@ -131,11 +131,13 @@ fn every_model_fits_on_a_screen_but_for_its_steps() {
     for reported in models_not_robust() {
         let words = explained(&reported).words(false);
         let steps = reported.steps.iter().filter(|step| step.access.is_some()).count() + 1;
-        assert!(words.lines().count() <= steps + 27, "{}: {words}", reported.name);
+        assert!(words.lines().count() <= steps + 28, "{}: {words}", reported.name);
         assert!(words.ends_with('\n') && !words.ends_with("\n\n"), "{}", reported.name);
         assert!(words.lines().all(|line| !line.ends_with(' ')), "{}: {words}", reported.name);
-        let widest = words.lines().map(|line| line.chars().count()).max().unwrap();
-        assert!(widest <= 90, "{}: {words}", reported.name);
+        let widest = |text: &str| text.lines().map(|line| line.chars().count()).max().unwrap();
+        assert!(widest(&words) <= 90, "{}: {words}", reported.name);
+        let advice = words.split("\n\n").last().unwrap();
+        assert!(widest(advice) <= 80, "{}: {words}", reported.name);
     }
     assert!(explained(&model("peterson-sc")).words(false).lines().count() <= 30);
 }
@@ -156,7 +158,7 @@ fn random_programs_are_explained_whole() {
         assert_eq!(words.matches("\n\n").count(), 3, "{}: {words}", reported.name);
         assert_eq!(
             words.matches("program order").count(),
-            words.matches("a fence between").count(),
+            words.matches("a fence directly after").count(),
             "{words}"
         );
     }

@@ -23,7 +23,7 @@ fn not_robust_is_explained_by_a_run_and_a_cycle() {
         "Step 5 (thread 2, line 24) is not SC: release/acquire lets it write turn\ndirectly after turn = 0",
         "writes turn = 0  written before   2  writes turn = 1",
         "reads b = 0      read older than  4  writes b = 1",
-        "  robust      fences after lines ",
+        "  robust      fences directly after lines ",
     ] {
         assert!(text.contains(part), "{part}\n{text}");
     }
