@@ -41,7 +41,7 @@ fn tell_beside(input: &Input, decided: &Decided, task: &Task) {
     if let Some(gaps) = input.source.as_ref().and_then(|source| gaps(source, decided)) {
         say(gaps);
     }
-    if task.verbose {
+    if task.verbose && !effort(decided).is_empty() {
         say(effort(decided).trim_end().into());
     }
     let at_terminal = io::stdout().is_terminal() && io::stderr().is_terminal();

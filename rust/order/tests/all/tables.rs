@@ -16,6 +16,20 @@ fn a_full_table_is_followed_by_longer_ones() {
         "{said}"
     );
     ends_quietly(&run(&["-q", "seqlock.order"], b""), 0, "RB 17823\n");
+    // Among several files nothing is said of what takes no time.
+    let two = ["seqlock.order", "mp.order"];
+    ends_quietly(&run(&two, b""), 0, "seqlock.order: RB 17823\nmp.order: RB 13\n");
+}
+
+#[test]
+fn what_the_search_took_is_said_when_asked_for() {
+    let said = ends(&run(&["-v", "-q", "seqlock.order"], b""), 0, "RB 17823\n");
+    assert!(
+        said.starts_with("order: seqlock.order: 17823 situations in a table of 3 MiB and an index of "),
+        "{said}"
+    );
+    let said = ends(&run(&["-v", "-"], b"PR"), 1, "NO 1\n");
+    assert_eq!(said.lines().count(), 1, "{said}");
 }
 
 #[test]
