@@ -43,7 +43,7 @@ pub enum Unexplained {
 
 impl Explanation {
     /// The explanation of a report NR and its steps on a model. The checker is asked about changes of the model, no
-    /// more than [`MOST_CHECKS`](crate::MOST_CHECKS) times.
+    /// more than [`MOST_CHECKS`](crate::MOST_CHECKS) times, and less often after a long run.
     ///
     /// Graph and cycle are checked by the definitions before anything is said of them.
     pub fn of(

@@ -21,7 +21,7 @@ const QUESTIONS: [Question; 8] = [
     (|it| each(it, has_parts_of_its_kind), "an event lacks what its kind has"),
     (|it| each(it, reads_a_write), "a value read is not that of an earlier write to the location"),
     (orders_are_total, "a modification order has other writes than its location"),
-    (|it| each(it, update_is_next), "a read-modify-write is not directly after the write that it reads"),
+    (updates_are_next, "a read-modify-write is not directly after the write that it reads"),
     (ends_stale, "the last access does not go by an older write"),
 ];
 
@@ -92,9 +92,13 @@ fn orders_are_total(execution: &Execution) -> bool {
     })
 }
 
-fn update_is_next(execution: &Execution, place: usize) -> bool {
-    let Event { kind, location, source, .. } = execution.events[place];
-    kind != Kind::Update || predecessor(execution, location, place) == source
+/// Every write but the starting ones comes after another in its order.
+fn updates_are_next(execution: &Execution) -> bool {
+    let is_next = |pair: &[usize]| {
+        let Event { kind, source, .. } = execution.events[pair[1]];
+        kind != Kind::Update || source == Some(pair[0])
+    };
+    execution.orders.iter().all(|order| order.windows(2).all(is_next))
 }
 
 /// The write directly before this one in the modification order of the location.

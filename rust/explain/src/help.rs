@@ -33,7 +33,7 @@ impl Help {
         cycle: &[Edge],
         check: &mut dyn FnMut(&Program) -> Checked,
     ) -> Help {
-        let mut trials = Trials::new(&source.program, check);
+        let mut trials = Trials::new(&source.program, execution.steps.len(), check);
         let groups = fences(source, execution, cycle, |step| Some(step.line));
         let fences = each_and_all(&mut trials, &groups);
         let enough = enough(source, &mut trials, groups);

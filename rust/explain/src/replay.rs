@@ -17,11 +17,11 @@ impl Execution {
             return None;
         }
         let thread = place_of(program, witness.thread)?;
-        let (&newest, stale) = state.graph().order(witness.location).split_last()?;
-        let has_value = |&&w: &&usize| state.graph().written(w) == witness.value;
-        let after = |&w: &usize| Some((w, state.ra_step(program, thread, w)?));
-        let (picked, after) = stale.iter().filter(has_value).find_map(after)?;
-        taken.push(due(&state, thread, true));
+        let newest = state.graph().newest(witness.location);
+        let is_named = |&w: &usize| w != newest && state.graph().written(w) == witness.value;
+        let picked = state.ra_choices(program, thread).into_iter().find(is_named)?;
+        let after = state.ra_step(program, thread, picked)?;
+        taken.push(due(&state, thread));
         let events = events(after.graph(), &taken);
         let orders = (0..program.locations.into()).map(|it| after.graph().order(it).to_vec()).collect();
         Some(Execution { steps: taken, events, orders, picked, newest })
@@ -51,10 +51,13 @@ fn run(program: &Program, steps: &[Step]) -> Option<(Vec<Taken>, State)> {
     let mut taken = Vec::new();
     for step in steps {
         let thread = place_of(program, step.thread.into())?;
-        let (access, after) = state.sc_step(program, thread)?;
-        taken.push(due(&state, thread, access.is_some()));
+        let due = due(&state, thread);
+        let access = state.take_sc_step(program, thread)?;
+        taken.push(Taken { event: due.event.filter(|_| access.is_some()), ..due });
         let shown = second::Step { thread: thread + 1, access };
-        state = (shown.bytes() == step.bytes()).then_some(after)?;
+        if shown.bytes() != step.bytes() {
+            return None;
+        }
     }
     Some((taken, state))
 }
@@ -64,12 +67,16 @@ fn place_of(program: &Program, thread: usize) -> Option<usize> {
     thread.checked_sub(1).filter(|&place| place < program.threads.len())
 }
 
-/// The step that a thread takes next; an event that it adds is the next one of the graph.
-fn due(state: &State, thread: usize, adds: bool) -> Taken {
-    Taken { thread, line: state.thread(thread).line.into(), event: adds.then_some(state.graph().size()) }
+/// The step that a thread takes next, if it makes an access: its event is the next one of the graph.
+fn due(state: &State, thread: usize) -> Taken {
+    Taken { thread, line: state.thread(thread).line.into(), event: Some(state.graph().size()) }
 }
 
 fn events(graph: &Graph, taken: &[Taken]) -> Vec<Event> {
+    let mut steps = vec![None; graph.size()];
+    for (place, step) in taken.iter().enumerate() {
+        step.event.into_iter().for_each(|event| steps[event] = Some(place));
+    }
     let event = |(place, event): (usize, &second::Event)| {
         let (kind, written) = match event.action {
             Action::Read => (Kind::Read, None),
@@ -77,7 +84,7 @@ fn events(graph: &Graph, taken: &[Taken]) -> Vec<Event> {
             Action::Update(value) => (Kind::Update, Some(value)),
         };
         Event {
-            step: taken.iter().position(|step| step.event == Some(place)),
+            step: steps[place],
             thread: event.thread,
             kind,
             location: event.location,

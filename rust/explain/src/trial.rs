@@ -47,8 +47,14 @@ pub enum Verdict {
     Untried,
 }
 
-/// The most checks that are spent on one explanation.
+/// The most checks that are spent on one explanation; that of a long run gets fewer.
 pub const MOST_CHECKS: usize = 40;
+
+/// As few after the longest runs: enough for the changes of a short cycle.
+const LEAST_CHECKS: usize = 8;
+
+/// The steps that the checks of one explanation may take in all, if each takes those of the run.
+const STEPS: usize = 2_000_000;
 
 /// What became of a set of changes.
 pub(crate) enum Outcome {
@@ -69,17 +75,25 @@ impl Outcome {
     }
 }
 
-/// A program that is not robust, and a checker that is asked no more often than [`MOST_CHECKS`].
+/// A program that is not robust, and a checker that is not asked too often.
 pub(crate) struct Trials<'a> {
-    pub program: &'a Program,
+    program: &'a Program,
     check: &'a mut dyn FnMut(&Program) -> Checked,
+    /// How often it may be asked.
+    most: usize,
     /// What was asked already.
     known: Vec<(Program, Checked)>,
 }
 
 impl<'a> Trials<'a> {
-    pub fn new(program: &'a Program, check: &'a mut dyn FnMut(&Program) -> Checked) -> Trials<'a> {
-        Trials { program, check, known: Vec::new() }
+    /// Trials of changes of a program, after a run of so many steps.
+    pub fn new(
+        program: &'a Program,
+        steps: usize,
+        check: &'a mut dyn FnMut(&Program) -> Checked,
+    ) -> Trials<'a> {
+        let most = (STEPS / steps.max(1)).clamp(LEAST_CHECKS, MOST_CHECKS);
+        Trials { program, check, most, known: Vec::new() }
     }
 
     /// How often the checker was asked.
@@ -97,7 +111,7 @@ impl<'a> Trials<'a> {
         if let Some((_, checked)) = self.known.iter().find(|(program, _)| *program == changed.program) {
             return Outcome::Checked(changed, checked.clone());
         }
-        if self.checks() == MOST_CHECKS {
+        if self.checks() == self.most {
             return Outcome::Not(Verdict::Untried);
         }
         let checked = (self.check)(&changed.program);
@@ -126,21 +140,31 @@ mod tests {
         Program { threads: vec![vec![line; 63]], locations: 1, values: 2 }
     }
 
-    #[test]
-    fn the_checker_is_asked_no_more_often_than_that() {
+    /// How often a checker is asked after a run of so many steps.
+    fn asked_after(steps: usize) -> usize {
         let program = long();
         let mut asked = 0;
         let mut check = |_: &Program| {
             asked += 1;
             Checked::Undecided
         };
-        let mut trials = Trials::new(&program, &mut check);
-        for after in 0..60 {
-            let expected = if after < MOST_CHECKS { Verdict::Undecided } else { Verdict::Untried };
-            assert_eq!(trials.trial(&[fence(after)]).verdict, expected, "{after}");
-        }
-        assert_eq!(trials.checks(), MOST_CHECKS);
-        assert_eq!(asked, MOST_CHECKS);
+        let mut trials = Trials::new(&program, steps, &mut check);
+        let verdicts: Vec<Verdict> = (0..60).map(|after| trials.trial(&[fence(after)]).verdict).collect();
+        let checks = trials.checks();
+        assert_eq!(asked, checks);
+        let expected = |place| if place < checks { Verdict::Undecided } else { Verdict::Untried };
+        assert_eq!(verdicts, (0..60).map(expected).collect::<Vec<_>>());
+        checks
+    }
+
+    #[test]
+    fn the_checker_is_asked_no_more_often_than_that() {
+        assert_eq!([0, 1, 700, 50_000].map(asked_after), [MOST_CHECKS; 4]);
+    }
+
+    #[test]
+    fn after_a_long_run_it_is_asked_less_often() {
+        assert_eq!([100_000, 200_000, 1_000_000, usize::MAX].map(asked_after), [20, 10, 8, 8]);
     }
 
     #[test]
@@ -148,7 +172,7 @@ mod tests {
         let program = long();
         let mut answers = vec![Checked::Robust, Checked::Undecided];
         let mut check = |_: &Program| answers.pop().unwrap();
-        let mut trials = Trials::new(&program, &mut check);
+        let mut trials = Trials::new(&program, 3, &mut check);
         for _ in 0..3 {
             assert_eq!(trials.trial(&[fence(0)]).verdict, Verdict::Undecided);
             assert_eq!(trials.trial(&[fence(1), fence(1)]).verdict, Verdict::Robust);
@@ -161,7 +185,7 @@ mod tests {
     fn it_is_not_asked_where_the_answer_is_known() {
         let program = long();
         let mut check = |_: &Program| panic!("asked");
-        let mut trials = Trials::new(&program, &mut check);
+        let mut trials = Trials::new(&program, 3, &mut check);
         assert_eq!(trials.trial(&[]).verdict, Verdict::NotRobust);
         assert_eq!(trials.trial(&[fence(0), fence(1)]).verdict, Verdict::NoRoom);
         assert_eq!(trials.checks(), 0);

@@ -48,7 +48,7 @@ impl Graph {
         self.events.push(Event { thread: Some(thread), location, action, source });
         if let Action::Write(_) | Action::Update(_) = action {
             let order = &mut self.orders[location];
-            let place = order.iter().position(|&write| write == w).expect("w is a write to the location");
+            let place = order.iter().rposition(|&write| write == w).expect("w is a write to the location");
             order.insert(place + 1, event);
         }
         event
@@ -94,6 +94,11 @@ impl Graph {
     /// "The newest write is the last in it."
     pub fn newest(&self, location: usize) -> usize {
         *self.orders[location].last().expect("a starting write is there")
+    }
+
+    /// The write that the event reads, where it reads one.
+    pub fn source(&self, event: usize) -> Option<usize> {
+        self.events[event].source
     }
 
     /// Whether the event is a starting write.

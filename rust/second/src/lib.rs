@@ -9,6 +9,7 @@
 
 mod events;
 mod graph;
+mod neighbours;
 mod order;
 mod report;
 mod search;

@@ -56,13 +56,13 @@ pub struct LocationPart {
 impl Situation {
     /// The situation of a state.
     pub fn of(state: &State) -> Situation {
-        let History { graph, events_of, .. } = &*state.history;
         let history = &*state.history;
+        let graph = &history.graph;
         let starts = history.locations(|newest| graph.is_start(newest));
-        let thread = |(thread, events): (usize, &Events)| {
-            let (readable, writable) = history.values(events);
-            let Thread { line, registers } = state.threads[thread];
-            ThreadPart { line, registers, seen: starts | history.seen(events), readable, writable }
+        let thread = |(thread, &Thread { line, registers }): (usize, &Thread)| {
+            let events = history.events_of(thread);
+            let (readable, writable) = history.values(&events);
+            ThreadPart { line, registers, seen: starts | history.seen(&events), readable, writable }
         };
         let location = |location| {
             let newest = graph.newest(location);
@@ -78,7 +78,7 @@ impl Situation {
             }
         };
         Situation {
-            threads: events_of.iter().enumerate().map(thread).collect(),
+            threads: state.threads.iter().enumerate().map(thread).collect(),
             locations: (0..graph.locations()).map(location).collect(),
         }
     }
@@ -87,7 +87,7 @@ impl Situation {
 impl History {
     /// The locations whose newest write is, or comes in SC order before, one of the events.
     fn seen(&self, events: &Events) -> Set {
-        let before = self.sc_order().before(events);
+        let before = self.before_in_sc_order(events);
         self.locations(|newest| events.contains(newest) || before.contains(newest))
     }
 
@@ -101,7 +101,7 @@ impl History {
     /// one of the events or happen before one; and of these writes those that are not directly followed by a
     /// read-modify-write.
     fn values(&self, events: &Events) -> ([Set; WIDTH], [Set; WIDTH]) {
-        let hidden = events.clone().or(&self.happens_before().before(events));
+        let hidden = events.clone().or(&self.happening_before(events));
         let (mut readable, mut writable) = ([0; WIDTH], [0; WIDTH]);
         for location in 0..self.graph.locations() {
             for (place, &write) in self.graph.order(location).iter().enumerate() {

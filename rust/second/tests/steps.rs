@@ -3,7 +3,7 @@
 
 use program::Operand::{Constant, Register};
 use program::{Line, Program};
-use second::{Access, Kind, State, Step};
+use second::{Access, Kind, Situation, State, Step};
 
 const X: u8 = 0;
 const Y: u8 = 1;
@@ -31,13 +31,16 @@ fn set(value: u8) -> Line {
 fn shows(lines: &[(Line, Option<Access>)]) {
     let threads = vec![lines.iter().map(|(line, _)| *line).collect()];
     let program = Program { threads, locations: 2, values: 4 };
-    let mut state = State::start(&program);
+    let (mut state, mut taken) = (State::start(&program), State::start(&program));
     for (line, expected) in lines {
         let (access, after) = state.sc_step(&program, 0).unwrap_or_else(|| panic!("{line:?} has no step"));
         assert_eq!(access, *expected, "{line:?}");
+        assert_eq!(taken.take_sc_step(&program, 0), Some(*expected), "{line:?}");
+        assert_eq!(Situation::of(&taken), Situation::of(&after), "{line:?}");
         state = after;
     }
     assert!(state.sc_step(&program, 0).is_none());
+    assert!(taken.take_sc_step(&program, 0).is_none());
 }
 
 #[test]
@@ -112,8 +115,25 @@ fn a_blocked_line_has_no_step() {
         Line::Bcas { location: X, a: Constant(1), b: Constant(0) },
     ] {
         let program = Program { threads: vec![vec![line]], locations: 2, values: 4 };
-        assert!(State::start(&program).sc_step(&program, 0).is_none(), "{line:?}");
+        let mut state = State::start(&program);
+        assert!(state.sc_step(&program, 0).is_none(), "{line:?}");
+        assert!(state.take_sc_step(&program, 0).is_none(), "{line:?}");
+        assert_eq!((state.thread(0).line, state.graph().size()), (0, 2), "{line:?}");
     }
+}
+
+#[test]
+fn a_step_that_is_taken_leaves_other_states_as_they_are() {
+    let lines =
+        vec![Line::Write { location: X, a: Constant(1) }, Line::Write { location: X, a: Constant(2) }];
+    let program = Program { threads: vec![lines], locations: 2, values: 4 };
+    let mut state = State::start(&program);
+    state.take_sc_step(&program, 0).unwrap();
+    let (before, kept) = (Situation::of(&state), state.clone());
+    state.take_sc_step(&program, 0).unwrap();
+    assert_eq!(Situation::of(&kept), before);
+    assert_eq!((kept.graph().size(), kept.graph().order(0)), (3, &[0, 2][..]));
+    assert_eq!((state.graph().size(), state.graph().order(0)), (4, &[0, 2, 3][..]));
 }
 
 #[test]

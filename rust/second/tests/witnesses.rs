@@ -8,6 +8,7 @@ use second::{witness, Kind, State, Witness};
 const X: u8 = 0;
 const Y: u8 = 1;
 const Z: u8 = 2;
+const W: u8 = 3;
 
 fn write(location: u8, value: u8) -> Line {
     Line::Write { location, a: Constant(value) }
@@ -21,11 +22,25 @@ fn cas(location: u8, from: u8, to: u8) -> Line {
     Line::Cas { reg: 0, location, a: Constant(from), b: Constant(to) }
 }
 
-/// What is named after the schedule, with threads counted from 1.
-fn named(threads: Vec<Vec<Line>>, schedule: &[usize]) -> Option<Witness> {
-    let program = Program { threads, locations: 3, values: 4 };
-    let step = |state: State, thread: &usize| state.sc_step(&program, thread - 1).expect("a run").1;
-    witness(&program, &schedule.iter().fold(State::start(&program), step))
+/// What is named after the schedule, with threads counted from 1: also in a long run, in which a last thread first
+/// writes another location many times.
+#[track_caller]
+fn named(mut threads: Vec<Vec<Line>>, schedule: &[usize]) -> Option<Witness> {
+    let found = named_in(threads.clone(), schedule);
+    threads.push(vec![write(W, 1), Line::Jump { target: 0, a: Constant(1) }]);
+    let last = threads.len();
+    let long = [vec![last; 2 * 2_500], schedule.to_vec()].concat();
+    assert_eq!(named_in(threads, &long), found);
+    found
+}
+
+fn named_in(threads: Vec<Vec<Line>>, schedule: &[usize]) -> Option<Witness> {
+    let program = Program { threads, locations: 4, values: 4 };
+    let mut state = State::start(&program);
+    for thread in schedule {
+        state.take_sc_step(&program, thread - 1).expect("a run");
+    }
+    witness(&program, &state)
 }
 
 fn at_x(thread: usize, kind: Kind, value: u8) -> Option<Witness> {

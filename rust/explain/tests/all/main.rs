@@ -8,6 +8,7 @@ mod edits;
 mod flaws;
 mod followed;
 mod helps;
+mod long;
 mod reader;
 mod replay;
 mod reported;

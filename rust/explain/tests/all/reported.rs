@@ -18,7 +18,7 @@ pub struct Reported {
 
 /// The report on a program, with the steps, in a table of this length.
 fn report_on(program: &Program, table: usize) -> (Report, Vec<Step>) {
-    let (mut table, mut trace) = (vec![0; table], vec![0; 20_000]);
+    let (mut table, mut trace) = (vec![0; table], vec![0; 1_000_000]);
     let report = plain::check(&encode(program), &mut table, &mut trace);
     let steps = if let Report::NotRobust { steps, .. } = report { steps } else { 0 };
     (report, steps_in(&trace[..steps * Step::BYTES]).unwrap())
@@ -56,9 +56,14 @@ pub fn source(text: &str) -> Source {
 
 /// The report on a model, if it is not robust.
 pub fn of_source(name: &str, source: Source) -> Option<Reported> {
-    let program = source.program.clone();
     // Most witnesses come soon.
-    let (report, steps) = report_on(&program, 1_000_000);
+    of_source_in(1_000_000, name, source)
+}
+
+/// The same, in a table of this length.
+pub fn of_source_in(table: usize, name: &str, source: Source) -> Option<Reported> {
+    let program = source.program.clone();
+    let (report, steps) = report_on(&program, table);
     let not_robust = matches!(report, Report::NotRobust { .. });
     not_robust.then(|| Reported { name: name.into(), source, program, report, steps })
 }
