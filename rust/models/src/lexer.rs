@@ -3,7 +3,7 @@
 use std::fmt;
 
 use crate::mistake::Place;
-use crate::text::shown;
+use crate::text::{shortened, shown};
 
 /// A piece of a text.
 #[derive(Clone, Copy, Debug, PartialEq, Eq)]
@@ -23,7 +23,7 @@ pub enum Piece<'a> {
 impl fmt::Display for Piece<'_> {
     fn fmt(&self, f: &mut fmt::Formatter) -> fmt::Result {
         match self {
-            Piece::Word(text) | Piece::Number(text) => write!(f, "'{text}'"),
+            Piece::Word(text) | Piece::Number(text) => write!(f, "'{}'", shortened(text)),
             Piece::Sign(text) => write!(f, "'{text}'"),
             Piece::Stray(character) => f.write_str(&shown(*character)),
             Piece::EndOfLine => write!(f, "the end of the line"),
