@@ -10,7 +10,7 @@ use crate::text::{shortened, shown};
 pub enum Piece<'a> {
     /// A letter or `_`, then letters, digits and `_`.
     Word(&'a str),
-    /// Digits.
+    /// Digits; or a number of C in another base, which no rule takes.
     Number(&'a str),
     /// One of `SIGNS`.
     Sign(&'static str),
@@ -77,7 +77,8 @@ fn piece_at(text: &str, first: char) -> (Option<Piece<'_>>, usize) {
         ' ' | '\t' | '\r' => (None, 1),
         '#' => (None, run(|c| c != '\n')),
         '0'..='9' => {
-            let length = run(|c| c.is_ascii_digit());
+            let length =
+                if has_base(text) { run(|c| c.is_ascii_alphanumeric()) } else { run(|c| c.is_ascii_digit()) };
             (Some(Piece::Number(&text[..length])), length)
         }
         'a'..='z' | 'A'..='Z' | '_' => {
@@ -86,4 +87,11 @@ fn piece_at(text: &str, first: char) -> (Option<Piece<'_>>, usize) {
         }
         _ => (Some(Piece::Stray(first)), first.len_utf8()),
     }
+}
+
+/// Whether the text starts with a number such as `0x1` or `0b1`. Taken apart, it would be a 0 and a name.
+fn has_base(text: &str) -> bool {
+    let digit = |prefix: &str| text.strip_prefix(prefix)?.chars().next();
+    ["0x", "0X"].iter().any(|prefix| digit(prefix).is_some_and(|c| c.is_ascii_hexdigit()))
+        || ["0b", "0B"].iter().any(|prefix| digit(prefix).is_some_and(|c| matches!(c, '0' | '1')))
 }
