@@ -4,6 +4,7 @@ use std::fs;
 use std::path::{Path, PathBuf};
 
 use crate::assemble;
+use crate::text::shortened;
 
 /// What a model expects of the checker.
 #[derive(Clone, Copy, Debug, PartialEq, Eq)]
@@ -72,10 +73,31 @@ fn report(path: &Path) -> Result<String, String> {
 
 /// The verdict of the one line `# expect RB` or `# expect NR`.
 pub fn expected(text: &str) -> Result<Verdict, String> {
-    let mut verdicts = text.lines().filter_map(|line| line.strip_prefix("# expect"));
-    match (verdicts.next(), verdicts.next()) {
-        (Some(" RB"), None) => Ok(Verdict::Robust),
-        (Some(" NR"), None) => Ok(Verdict::NotRobust),
-        _ => Err(" expected one line '# expect RB' or '# expect NR'".into()),
+    let mut lines = text.lines().filter(|line| line.starts_with("# expect"));
+    match (lines.next().and_then(verdict), lines.next()) {
+        (Some(verdict), None) => Ok(verdict),
+        _ => Err(format!(" expected one line '# expect RB' or '# expect NR'{}", found_instead(text))),
+    }
+}
+
+fn verdict(line: &str) -> Option<Verdict> {
+    match line {
+        "# expect RB" => Some(Verdict::Robust),
+        "# expect NR" => Some(Verdict::NotRobust),
+        _ => None,
+    }
+}
+
+/// The first comment that looks like such a line and is none, or the second that is one.
+fn found_instead(text: &str) -> String {
+    let is_near = |line: &str| {
+        let comment = line.trim_start().strip_prefix('#').map(|comment| comment.trim_start().to_lowercase());
+        comment.is_some_and(|comment| comment.starts_with("expect"))
+    };
+    let near: Vec<_> = text.lines().enumerate().filter(|(_, line)| is_near(line)).collect();
+    let wrong = near.iter().find(|(_, line)| verdict(line).is_none());
+    match wrong.or(near.get(1)) {
+        Some((number, line)) => format!(", found '{}' on line {}", shortened(line), number + 1),
+        None => String::new(),
     }
 }

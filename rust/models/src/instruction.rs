@@ -148,13 +148,22 @@ impl<'a> Scope<'a> {
     }
 
     fn operand_at(&self, cursor: &Cursor<'a>) -> Option<Operand> {
-        let constant = self.value_at(cursor).map(Operand::Constant);
-        constant.or(self.register_at(cursor).map(Operand::Register))
+        self.operand_of(cursor.peek().piece)
+    }
+
+    /// The value or the register that the piece is.
+    pub fn operand_of(&self, piece: Piece) -> Option<Operand> {
+        let constant = self.value_of(piece).map(Operand::Constant);
+        constant.or(self.register_of(piece).map(Operand::Register))
     }
 
     fn value_at(&self, cursor: &Cursor<'a>) -> Option<u8> {
-        let token = cursor.peek();
-        token.number_in(&(0..=self.values - 1)).or(self.names.find(Kind::Constant, token.piece))
+        self.value_of(cursor.peek().piece)
+    }
+
+    fn value_of(&self, piece: Piece) -> Option<u8> {
+        let number = piece.number_in(&(0..=u8::MAX)).filter(|&number| number < self.values);
+        number.or(self.names.find(Kind::Constant, piece))
     }
 
     fn register_at(&self, cursor: &Cursor<'a>) -> Option<u8> {
@@ -210,10 +219,10 @@ fn jump<'a>(cursor: &mut Cursor<'a>, a: Operand) -> Result<Instruction<'a>, Mist
     Ok(Instruction::Jump { a, label })
 }
 
-impl Token<'_> {
+impl Piece<'_> {
     /// The number that it is, if that is in the range.
     pub fn number_in(&self, range: &RangeInclusive<u8>) -> Option<u8> {
-        match self.piece {
+        match self {
             Piece::Number(digits) => digits.parse().ok().filter(|number| range.contains(number)),
             _ => None,
         }

@@ -3,14 +3,14 @@
 use std::fmt;
 
 use crate::mistake::Place;
-use crate::text::shown;
+use crate::text::{shortened, shown};
 
 /// A piece of a text.
 #[derive(Clone, Copy, Debug, PartialEq, Eq)]
 pub enum Piece<'a> {
     /// A letter or `_`, then letters, digits and `_`.
     Word(&'a str),
-    /// Digits.
+    /// Digits; or a number of C in another base, which no rule takes.
     Number(&'a str),
     /// One of `SIGNS`.
     Sign(&'static str),
@@ -23,7 +23,7 @@ pub enum Piece<'a> {
 impl fmt::Display for Piece<'_> {
     fn fmt(&self, f: &mut fmt::Formatter) -> fmt::Result {
         match self {
-            Piece::Word(text) | Piece::Number(text) => write!(f, "'{text}'"),
+            Piece::Word(text) | Piece::Number(text) => write!(f, "'{}'", shortened(text)),
             Piece::Sign(text) => write!(f, "'{text}'"),
             Piece::Stray(character) => f.write_str(&shown(*character)),
             Piece::EndOfLine => write!(f, "the end of the line"),
@@ -77,7 +77,8 @@ fn piece_at(text: &str, first: char) -> (Option<Piece<'_>>, usize) {
         ' ' | '\t' | '\r' => (None, 1),
         '#' => (None, run(|c| c != '\n')),
         '0'..='9' => {
-            let length = run(|c| c.is_ascii_digit());
+            let length =
+                if has_base(text) { run(|c| c.is_ascii_alphanumeric()) } else { run(|c| c.is_ascii_digit()) };
             (Some(Piece::Number(&text[..length])), length)
         }
         'a'..='z' | 'A'..='Z' | '_' => {
@@ -86,4 +87,11 @@ fn piece_at(text: &str, first: char) -> (Option<Piece<'_>>, usize) {
         }
         _ => (Some(Piece::Stray(first)), first.len_utf8()),
     }
+}
+
+/// Whether the text starts with a number such as `0x1` or `0b1`. Taken apart, it would be a 0 and a name.
+fn has_base(text: &str) -> bool {
+    let digit = |prefix: &str| text.strip_prefix(prefix)?.chars().next();
+    ["0x", "0X"].iter().any(|prefix| digit(prefix).is_some_and(|c| c.is_ascii_hexdigit()))
+        || ["0b", "0B"].iter().any(|prefix| digit(prefix).is_some_and(|c| matches!(c, '0' | '1')))
 }

@@ -7,6 +7,7 @@ use program::limits::REGISTERS;
 
 use crate::lexer::{Piece, Token};
 use crate::mistake::Mistake;
+use crate::text::shortened;
 
 /// The words with a meaning of their own.
 pub const KEYWORDS: &[&str] =
@@ -90,7 +91,7 @@ impl<'a> Names<'a> {
             return Err(mistake);
         };
         match self.why_taken(name) {
-            Some(reason) => Err(Mistake { found: format!("'{name}', {reason}"), ..mistake }),
+            Some(reason) => Err(Mistake { found: format!("{}, {reason}", token.piece), ..mistake }),
             None => Ok(NewName { name, kind, line: token.place.line }),
         }
     }
@@ -123,9 +124,12 @@ impl<'a> Names<'a> {
 /// A thing that the text may name, with such names in brackets. The list ends where it gets long.
 pub fn with_names(thing: &str, names: &[&str]) -> String {
     const SHOWN: usize = 12;
+    let mut shown: Vec<_> = names.iter().take(SHOWN).map(|name| shortened(name)).collect();
+    if names.len() > SHOWN {
+        shown.push("..".into());
+    }
     match names {
         [] => thing.into(),
-        _ if names.len() > SHOWN => format!("{thing} ({}, ..)", names[..SHOWN].join(", ")),
-        _ => format!("{thing} ({})", names.join(", ")),
+        _ => format!("{thing} ({})", shown.join(", ")),
     }
 }

@@ -28,7 +28,7 @@ fn header<'a>(cursor: &mut Cursor<'a>, scope: &mut Scope<'a>) -> Result<(), Mist
     cursor.expect("values")?;
     let token = cursor.take();
     let expected = || format!("a number from {} to {}", VALUES.start(), VALUES.end());
-    scope.values = token.number_in(&VALUES).ok_or_else(|| token.mistake(expected()))?;
+    scope.values = token.piece.number_in(&VALUES).ok_or_else(|| token.mistake(expected()))?;
     cursor.expect_end_of_line()?;
 
     definitions(cursor, scope)?;
@@ -112,7 +112,7 @@ fn equal_threads<'a>(
     if cursor.take_if("*") {
         let (token, most) = (cursor.take(), *THREADS.end());
         let expected = || format!("a number from 1 to {}, for at most {most} threads in all", most - before);
-        count = token.number_in(&(1..=most - before)).ok_or_else(|| token.mistake(expected()))?;
+        count = token.piece.number_in(&(1..=most - before)).ok_or_else(|| token.mistake(expected()))?;
     }
     cursor.expect_end_of_line()?;
     definitions(cursor, scope)?;

@@ -59,6 +59,17 @@ fn starts_line(character: char) -> bool {
     matches!(character, '\r' | '\u{b}' | '\u{c}' | '\u{85}' | '\u{2028}' | '\u{2029}')
 }
 
+/// How many characters of a long text a message shows.
+const SHOWN: usize = 40;
+
+/// The text, or the start of it where it is long.
+pub fn shortened(text: &str) -> String {
+    match text.char_indices().nth(SHOWN) {
+        Some((end, _)) => format!("{}..", &text[..end]),
+        None => text.into(),
+    }
+}
+
 /// The character in quotes, or its number where it can't be seen.
 pub fn shown(character: char) -> String {
     let quoted = format!("{character:?}");

@@ -126,6 +126,33 @@ fn an_expectation_is_one_line() {
 }
 
 #[test]
+fn an_expectation_in_another_spelling_is_named() {
+    let message = |text: &str| collection::expected(text).unwrap_err();
+    let plain = " expected one line '# expect RB' or '# expect NR'";
+    for line in [
+        "#expect NR",
+        "# Expect: NR",
+        "# expects NR",
+        "#  EXPECT NR",
+        "  # expect NR",
+        "# expect FU",
+        "# expect NR ",
+    ] {
+        let text = format!("# a model\n{line}\nvalues 2\n");
+        assert_eq!(message(&text), format!("{plain}, found '{line}' on line 2"));
+        assert_eq!(message(&text.replace('\n', "\r\n")), format!("{plain}, found '{line}' on line 2"));
+    }
+    for text in ["", "values 2\n", "# as we expect\n", "expect NR\n", "x := 1 # expect NR\n", "# except NR\n"]
+    {
+        assert_eq!(message(text), plain, "{text}");
+    }
+    assert_eq!(message("# expect RB\n\n# expect NR"), format!("{plain}, found '# expect NR' on line 3"));
+    assert_eq!(message("# expect RB\n# expected"), format!("{plain}, found '# expected' on line 2"));
+    let long = format!("# expects{}", "é".repeat(3_000));
+    assert_eq!(message(&long), format!("{plain}, found '# expects{}..' on line 1", "é".repeat(31)));
+}
+
+#[test]
 fn a_directory_with_a_bad_model_is_refused_by_name() {
     let directory = Path::new(env!("CARGO_TARGET_TMPDIR")).join("bad-model");
     fs::create_dir_all(&directory).unwrap();

@@ -6,7 +6,7 @@ use std::time::{Duration, Instant};
 use models::{assemble, Mistake};
 use program::limits::LONGEST_INPUT;
 
-/// The message, with line and column in front and without a hint: `hints.rs` is about these.
+/// The message, with line and column in front and without a hint: the tests in `hints` are about these.
 fn message(text: &str) -> String {
     match assemble(text.as_bytes()) {
         Ok(bytes) => panic!("{text}\nwas assembled to {bytes:?}"),
@@ -179,6 +179,24 @@ fn a_long_list_of_labels_is_cut() {
     let line = format!("{}: goto end", labels.join(": "));
     let column = line.chars().count() - 2;
     expect_line(&line, &format!("4:{column}: expected a label of this thread {shown}, found 'end'"));
+}
+
+#[test]
+fn a_long_word_is_cut() {
+    let cut = |letter: &str| format!("{}..", letter.repeat(40));
+    let (a, b, digits) = ("a".repeat(3_000), "b".repeat(3_000), "9".repeat(3_000));
+    expect_line(&format!("{a} := 1"), &format!("4:1: expected {START}, found '{}'", cut("a")));
+    expect_line(&format!("x := {digits}"), &format!("4:6: expected {OPERAND}, found '{}'", cut("9")));
+    let whole = "a".repeat(40);
+    expect_line(&whole, &format!("4:1: expected {START}, found '{whole}'"));
+    expect_line(
+        &format!("{a}:\n{a}:"),
+        &format!("5:1: expected a name for a label, found '{}', the name of a label on line 4", cut("a")),
+    );
+    expect_line(
+        &format!("{a}: goto {b}"),
+        &format!("4:3008: expected a label of this thread ({}), found '{}'", cut("a"), cut("b")),
+    );
 }
 
 #[test]

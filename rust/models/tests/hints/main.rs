@@ -1,6 +1,11 @@
 //! Where what stands there is nearly right, a hint says what was meant; elsewhere there is none.
 #![forbid(unsafe_code)]
 
+mod accesses;
+mod from_c;
+mod headers;
+mod values;
+
 use models::assemble;
 
 /// The hint for the first mistake of a text, which has one.
@@ -31,6 +36,18 @@ fn headers(expected: &str, of: &[&str]) {
     for text in of {
         assert_eq!(hint(text).as_deref(), Some(expected), "{text}");
     }
+}
+
+/// The lines that stand in quotes in a hint, all of which assemble.
+#[track_caller]
+fn offered(line: &str) -> Vec<String> {
+    let hint = self::line(line).unwrap();
+    let quoted: Vec<String> = hint.split('\'').skip(1).step_by(2).map(String::from).collect();
+    for line in &quoted {
+        let text = format!("values 3\nlocations x f\nregisters mine = r0\nthread\n{line}\n");
+        assert!(assemble(text.as_bytes()).is_ok(), "{line}");
+    }
+    quoted
 }
 
 #[test]
@@ -74,77 +91,6 @@ fn comparisons_of_other_languages() {
 }
 
 #[test]
-fn accesses_of_other_forms() {
-    lines("write 'CAS(x, 0 -> 1)'", &["r0 := CAS(x, 0, 1)"]);
-    lines("write 'BCAS(flag, r1 -> full)'", &["BCAS(flag, r1, full)"]);
-    lines(
-        "a register gets the value found: 'r0 := CAS(..)'",
-        &["CAS(x, 0 -> 1)", "end: CAS(x, 0 -> 1)", "x := CAS(x, 0 -> 1)"],
-    );
-    lines("a register gets the value found: 'r0 := FADD(..)'", &["FADD(x, 1)", "flag := FADD(x, 1)"]);
-    lines("'BCAS' stands without ':='", &["r0 := BCAS(x, 0 -> 1)"]);
-    lines("'wait' stands without ':='", &["r0 := wait(x = 1)"]);
-    lines("a location stands without '&'", &["r0 := CAS(&x, 0 -> 1)", "wait(&x = 1)"]);
-}
-
-#[test]
-fn a_line_makes_one_access() {
-    let first = "read 'flag' into a register first, in a line of its own";
-    lines(first, &["x := flag", "if flag goto again", "r0 := CAS(x, flag -> 1)", "r0 := CAS(x, 0 -> flag)"]);
-    lines(first, &["r0 := 1 + flag", "r0 := FADD(x, flag)", "x := flag + 1", "flag := flag + x"]);
-    let anew = "read 'flag' into a register first; if each round reads it anew, write a loop instead";
-    lines(anew, &["wait(x = flag)", "BCAS(x, flag -> 1)", "BCAS(x, 0 -> flag)"]);
-    lines(
-        "a read stands alone: write 'r0 := x', and go on with r0",
-        &["r0 := x + 1", "r0 := x = 1", "r0 := x - 1", "r0 := x + r1"],
-    );
-    lines("a read stands alone: write 'mine := x', and go on with mine", &["mine := x < 1"]);
-    lines("a read stands alone: read 'x' into another register first", &["r0 := x + r0", "r0 := x - mine"]);
-    lines("work the value out in a register first", &["x := r0 + 1", "x := 1 = full", "x := 2 - 1"]);
-}
-
-/// In C `x = x + 1` is a load and a store: a model with one access in their place would have fewer runs.
-#[test]
-fn a_sum_in_place_is_three_lines_unless_it_is_atomic() {
-    let three = |reg: &str, a: &str| {
-        format!(
-            "write '{reg} := x', '{reg} := {reg} + {a}' and 'x := {reg}', on three lines; \
-             if it is one atomic step, '{reg} := FADD(x, {a})'"
-        )
-    };
-    lines(&three("r0", "1"), &["x := x + 1", "end: x := x + 1"]);
-    lines(&three("r0", "full"), &["x := x + full"]);
-    lines(&three("r0", "r1"), &["x := x + r1"]);
-    // The register that is added must not be read into.
-    lines(&three("r1", "r0"), &["x := x + r0"]);
-    lines(&three("r1", "mine"), &["x := x + mine"]);
-}
-
-#[test]
-fn what_a_hint_offers_in_quotes_assembles() {
-    let hint = line("x := x + mine").unwrap();
-    let offered: Vec<_> = hint.split('\'').skip(1).step_by(2).collect();
-    assert_eq!(offered.len(), 4);
-    for line in offered {
-        let text = format!("values 3\nlocations x\nregisters mine = r0\nthread\n{line}\n");
-        assert!(assemble(text.as_bytes()).is_ok(), "{line}");
-    }
-}
-
-#[test]
-fn values_that_are_too_large() {
-    lines("the value 3 takes 'values 4' or more", &["x := 3", "r0 := 3", "r0 := r0 + 3", "wait(x = 3)"]);
-    lines("the value 15 takes 'values 16' or more", &["r0 := CAS(x, 15 -> 1)", "if 15 goto again"]);
-    lines(
-        "the largest value is 15, with 'values 16'",
-        &["x := 16", "x := 255", "x := 256", "x := 99999999999"],
-    );
-    headers("the value 3 takes 'values 4' or more", &["values 3\nconstants a = 3\n"]);
-    lines("sums wrap: with 'values 3', '+ 2' takes 1 away", &["r0 := r0 - 1", "r0 := full - 1"]);
-    lines("sums wrap: with 'values 3', '+ 1' takes 2 away", &["r0 := r0 -2"]);
-}
-
-#[test]
 fn the_ends_of_lines() {
     lines(
         "a line ends without ';', and only one stands on a line",
@@ -154,6 +100,7 @@ fn the_ends_of_lines() {
         "a comment starts with #",
         &["x := 1 // why", "-- why", "// why", "r0 := x /* why */", "/* why */"],
     );
+    headers("a comment starts with #", &["--r0\n"]);
 }
 
 #[test]
@@ -172,17 +119,6 @@ fn words_that_are_nearly_right() {
     headers("did you mean 'values'?", &["value 2\n", "Values 2\n"]);
     headers("did you mean 'locations'?", &["values 2\nlocation x\n", "values 2\nlocatoins x\n"]);
     headers("did you mean 'constants'?", &["values 2\nlocations x\nconstant a = 1\n"]);
-}
-
-#[test]
-fn headers_of_other_forms() {
-    let commas = "no commas between the names";
-    headers(commas, &["values 2\nlocations x, y\n", "values 2\nconstants a = 0, b = 1\n"]);
-    headers(commas, &["values 2\nregisters a = r0, b = r1\n"]);
-    let numbers = "threads have no numbers; 'thread * 3' is three equal threads";
-    headers(numbers, &["values 2\nlocations x\nthread 1\n"]);
-    let late = "definitions stand in the header, or before the first line of a thread";
-    lines(late, &["x := 1\nregisters a = r0", "x := 1\nconstants a = 1"]);
 }
 
 #[test]
@@ -215,7 +151,22 @@ fn where_nothing_is_nearly_right_there_is_no_hint() {
         "r0 := FADD(x, 1 -> 2)",
         "values 2",
         "x / 1",
-        "else",
+        "r0 := FADD(x, -3)",
+        "r1 := 1 --",
+        "r0 := r1--",
+        "x += flag",
+        "x += 3",
+        "x -= r1",
+        "x -= 3",
+        "z++",
+        "++z",
+        "wait(r0)",
+        "r0 := FADD(r0, 1)",
+        "r0 := FADD(x + 1)",
+        "x += r1 + 1",
+        "r0 := !z",
+        "r0 := ! 1",
+        "thread * 3 4",
     ] {
         assert_eq!(line(text), None, "{text}");
     }
@@ -231,8 +182,12 @@ fn where_nothing_is_nearly_right_there_is_no_hint() {
         "values 2\nlocations x\nconstants y = x\n",
         "values 2\nlocations flag flag\n",
         "values 2\nlocations x\nregisters y = 7\n",
-        "values 2\nlocations x\nthread x\n",
-        "values 2\nlocations x\nthread:\n",
+        "values 2\nlocations {x}\n",
+        "values {\n",
+        "values -1\n",
+        "++r0\n",
+        "while (1) {\n",
+        "values 2\nfence\n",
     ] {
         assert_eq!(hint(text), None, "{text}");
     }
@@ -251,4 +206,11 @@ fn very_long_words_are_not_compared() {
     let name = "n".repeat(300_000);
     let text = format!("values 2\nlocations {name}\nthread\nr0 := {name}m\n");
     assert_eq!(hint(&text), None);
+}
+
+#[test]
+fn very_long_names_are_not_repeated() {
+    let text = |name: &str| format!("values 2\nlocations {name}\nthread\n{name} := {name} + 1\n");
+    assert!(hint(&text(&"n".repeat(50))).is_some());
+    assert_eq!(hint(&text(&"n".repeat(3_000))), None);
 }
