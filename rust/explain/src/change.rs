@@ -69,23 +69,33 @@ pub fn changed(program: &Program, changes: &[Change]) -> Option<Changed> {
 /// The location of the program's own fences: the first that fences use and nothing else, or else the first that nothing
 /// uses; nothing where a fence needs a new one. Either is never anything but 0.
 pub fn fence_location(program: &Program) -> Option<u8> {
-    let accesses = |location| {
-        let lines = program.threads.iter().flatten();
-        lines.filter(move |line| location_of(line) == Some(location))
-    };
-    let own: Vec<u8> = (0..program.locations).filter(|&it| accesses(it).all(is_fence)).collect();
-    let used = own.iter().find(|&&location| accesses(location).next().is_some());
-    used.or(own.first()).copied()
+    let is_unused = |location: &u8| accesses(program, *location).next().is_none();
+    fence_locations(program).first().copied().or((0..program.locations).find(is_unused))
+}
+
+/// The locations that fences use, and nothing else does.
+pub fn fence_locations(program: &Program) -> Vec<u8> {
+    let is_used = |location: &u8| accesses(program, *location).next().is_some();
+    let is_own = |location: &u8| accesses(program, *location).all(is_fence);
+    (0..program.locations).filter(is_used).filter(is_own).collect()
+}
+
+/// The lines that access a location.
+fn accesses(program: &Program, location: u8) -> impl Iterator<Item = &Line> {
+    program.threads.iter().flatten().filter(move |line| location_of(line) == Some(location))
 }
 
 /// Whether the line is a fence on a location that is never anything but 0.
 fn is_fence(line: &Line) -> bool {
     const ZERO: Operand = Operand::Constant(0);
-    matches!(line, Line::Fadd { a: ZERO, .. } | Line::Bcas { a: ZERO, b: ZERO, .. })
+    matches!(
+        line,
+        Line::Fadd { a: ZERO, .. } | Line::Bcas { a: ZERO, b: ZERO, .. } | Line::Cas { a: ZERO, b: ZERO, .. }
+    )
 }
 
 /// The location of the access that a line makes, if it does.
-fn location_of(line: &Line) -> Option<u8> {
+pub fn location_of(line: &Line) -> Option<u8> {
     match *line {
         Line::Write { location, .. }
         | Line::Read { location, .. }

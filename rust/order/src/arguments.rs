@@ -1,6 +1,7 @@
 //! What the command line asks for.
 
-use std::fs::canonicalize;
+use std::fs::File;
+use std::io::Read;
 
 /// What is asked for.
 pub enum Asked {
@@ -99,13 +100,6 @@ impl Task {
         self.html.is_some() || self.dot.is_some()
     }
 
-    /// Whether a file to write is one to read, or has the ending of those.
-    fn is_read(&self, file: &str) -> bool {
-        let same =
-            |other: &String| matches!((canonicalize(file), canonicalize(other)), (Ok(a), Ok(b)) if a == b);
-        file != "-" && (file.ends_with(".order") || self.files.iter().any(same))
-    }
-
     /// Whether its parts go together.
     fn fits(&self) -> Result<(), String> {
         let instead = [&self.html, &self.dot].into_iter().flatten().filter(|file| *file == "-").count();
@@ -119,11 +113,11 @@ impl Task {
             Err("--html and --dot are for one model".into())
         } else if self.draws() && self.show == Show::Expected {
             Err("--expect goes with neither --html nor --dot".into())
-        } else if let Some(model) = [&self.html, &self.dot].into_iter().flatten().find(|it| self.is_read(it))
-        {
-            Err(format!("{model} is a model, and would be written over"))
+        } else if self.draws() && self.html == self.dot {
+            Err("--html and --dot need a file each".into())
         } else {
-            Ok(())
+            let html = self.html.iter().try_for_each(|file| may_write(file, "<!DOCTYPE html>"));
+            html.and(self.dot.iter().try_for_each(|file| may_write(file, "digraph ")))
         }
     }
 
@@ -134,6 +128,20 @@ impl Task {
         self.show = show;
         Ok(())
     }
+}
+
+/// Whether a file may be written: a forgotten name must cost no model. What is there already starts as what is written.
+fn may_write(file: &str, start: &str) -> Result<(), String> {
+    let is_other = || {
+        let mut found = Vec::new();
+        let opened = File::open(file).ok().filter(|it| it.metadata().is_ok_and(|it| it.is_file()));
+        let read = opened.map(|it| it.take(start.len() as u64).read_to_end(&mut found));
+        matches!(read, Some(Ok(1..))) && found != start.as_bytes()
+    };
+    if file != "-" && (file.ends_with(".order") || is_other()) {
+        return Err(format!("{file} is no page and no graph, and would be written over"));
+    }
+    Ok(())
 }
 
 /// A number of bytes: digits, with `_` between them where it helps, and K, M or G for 1,024 and its powers.

@@ -5,7 +5,7 @@ use explain::{Explanation, Json};
 
 use crate::decide::Decided;
 use crate::input::Input;
-use crate::words::refused;
+use crate::words::{gaps, refused};
 
 /// The version of order_check.h.
 const VERSION: &str = env!("CARGO_PKG_VERSION_MINOR");
@@ -18,6 +18,7 @@ pub fn json(input: &Input, decided: &Decided, explanation: Option<&Explanation>)
         Report::Refused { number } => refused(input, *number).as_str().into(),
         _ => Json::Null,
     };
+    let gaps = input.source.as_ref().and_then(|source| gaps(source, decided));
     object(
         &input.file,
         [
@@ -29,6 +30,7 @@ pub fn json(input: &Input, decided: &Decided, explanation: Option<&Explanation>)
             lent.index.into(),
             usize::try_from(time.as_millis()).unwrap_or(usize::MAX).into(),
             explanation.map_or(Json::Null, Explanation::json),
+            gaps.as_deref().map_or(Json::Null, Json::from),
             error,
         ],
     )
@@ -42,7 +44,7 @@ pub fn error(file: &str, message: &str) -> Json {
 }
 
 /// The members, after those that all objects have.
-const MEMBERS: [&str; 9] = [
+const MEMBERS: [&str; 10] = [
     "verdict",
     "report",
     "steps",
@@ -51,6 +53,7 @@ const MEMBERS: [&str; 9] = [
     "index_bytes",
     "milliseconds",
     "explanation",
+    "gaps",
     "error",
 ];
 

@@ -70,7 +70,13 @@ fn in_larger_tables(input: &Input, task: &Task, start: Instant) -> Result<Search
         if !task.quiet && (task.files.len() == 1 || start.elapsed() >= LONG) {
             tell(format!("order: {}", progress(input, count, lent, next, start.elapsed())));
         }
-        searched = check(input, next)?;
+        match check(input, next) {
+            Ok(next) => searched = next,
+            Err(message) => {
+                tell(format!("order: {message}"));
+                break;
+            }
+        }
     }
     Ok(searched)
 }

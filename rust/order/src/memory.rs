@@ -5,17 +5,21 @@ use std::fs;
 /// The most that tables with their indexes get by themselves: 1 GiB, or a quarter of the machine's memory.
 pub fn limit() -> usize {
     const MOST: usize = 1 << 30;
-    [field("MemTotal"), group()].into_iter().flatten().fold(MOST, |least, total| least.min(total / 4))
+    [field("MemTotal"), group("memory.max")]
+        .into_iter()
+        .flatten()
+        .fold(MOST, |least, total| least.min(total / 4))
 }
 
 /// What can be had now, where the system tells.
 pub fn available() -> Option<usize> {
-    field("MemAvailable")
+    let left = || group("memory.max")?.checked_sub(group("memory.current")?);
+    field("MemAvailable").into_iter().chain(left()).min()
 }
 
-/// What the group of processes may have that this one is in, where that is bounded.
-fn group() -> Option<usize> {
-    fs::read_to_string("/sys/fs/cgroup/memory.max").ok()?.trim().parse().ok()
+/// A number on the memory of the group of processes that this one is in, where that is bounded.
+fn group(name: &str) -> Option<usize> {
+    fs::read_to_string(format!("/sys/fs/cgroup/{name}")).ok()?.trim().parse().ok()
 }
 
 /// A field of what Linux says of its memory, in bytes.

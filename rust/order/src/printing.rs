@@ -33,8 +33,9 @@ fn run(path: &PathBuf, input: &[u8]) -> io::Result<Vec<u8>> {
     let mut stdin = child.stdin.take().expect("it is piped");
     // Beside each other, in case it writes before it has read all. What it does not read shows in its report.
     let output = thread::scope(|scope| {
-        scope.spawn(move || stdin.write_all(input));
-        child.wait_with_output()
+        let writer = thread::Builder::new().spawn_scoped(scope, move || stdin.write_all(input));
+        let output = child.wait_with_output();
+        writer.and(output)
     })?;
     if output.status.success() {
         Ok(output.stdout)

@@ -39,7 +39,7 @@ pub fn unreached(source: &Source, reached: &Reached) -> (Vec<usize>, Vec<usize>)
 }
 
 /// The lines of the text for which the question holds of a thread and its line, in their order.
-fn lines_where(source: &Source, question: impl Fn(usize, usize) -> bool) -> Vec<usize> {
+pub fn lines_where(source: &Source, question: impl Fn(usize, usize) -> bool) -> Vec<usize> {
     let mut found = Vec::new();
     for (thread, statements) in source.statements.iter().enumerate() {
         let lines = statements.iter().enumerate().filter(|&(line, _)| question(thread, line));

@@ -39,7 +39,7 @@ fn tell_beside(input: &Input, decided: &Decided, task: &Task) {
         return;
     }
     if let Some(gaps) = input.source.as_ref().and_then(|source| gaps(source, decided)) {
-        say(gaps);
+        say(if input.is_text { gaps } else { format!("{gaps} (lines of its disassembly)") });
     }
     if task.verbose && !effort(decided).is_empty() {
         say(effort(decided).trim_end().into());

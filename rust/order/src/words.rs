@@ -1,14 +1,14 @@
 //! What a verdict means, in words.
 
 use answer::Report;
-use explain::fence_location;
+use explain::{fence_locations, location_of};
 use models::Source;
 use program::{Line, Operand, Program};
 
 use crate::decide::{seconds, situations, Decided};
 use crate::input::Input;
 use crate::memory::shown;
-use crate::reached::unreached;
+use crate::reached::{lines_where, unreached};
 
 /// What a report means that has no graph; nothing for a verdict that is not known.
 pub fn meaning(input: &Input, decided: &Decided) -> String {
@@ -22,10 +22,12 @@ pub fn meaning(input: &Input, decided: &Decided) -> String {
 
 /// What RB allows, and what it does not speak of.
 fn robust(source: &Source, decided: &Decided) -> String {
-    let fences = fence_location(&source.program).map_or(String::new(), |location| {
-        let line = format!("fences: FADD({}, 0)", source.locations[usize::from(location)]);
-        format!("    {line:<48} stay seq_cst fences\n")
-    });
+    let fences = fences(source);
+    let fences = if fences.is_empty() {
+        String::new()
+    } else {
+        format!("    {:<48} stay seq_cst fences\n", format!("fences: {}", lines(&fences)))
+    };
     format!(
         "Robust: every release/acquire run of this model, of any length, ends in thread\n\
          states and an execution graph that some sequentially consistent run reaches too.\n\
@@ -59,6 +61,15 @@ fn item(text: &str) -> String {
         }
     }
     lines.join("\n") + "\n"
+}
+
+/// The lines of the text that are fences.
+fn fences(source: &Source) -> Vec<usize> {
+    let own = fence_locations(&source.program);
+    let is_fence = |thread: usize, line: usize| {
+        location_of(&source.program.threads[thread][line]).is_some_and(|location| own.contains(&location))
+    };
+    lines_where(source, is_fence)
 }
 
 /// What wraps, if anything does.

@@ -84,11 +84,14 @@ fn a_wrong_command_line_is_2() {
         (&["-", "-"], "standard input can be read once"),
         (&["--table", "1", "--table=2", "sb.order"], "expected one --table"),
         (&["--html", "a", "--html", "b", "sb.order"], "expected one --html"),
-        (&["--html", "sb.order", "mp.order"], "sb.order is a model, and would be written over"),
+        (&["--html", "a", "--dot", "a", "sb.order"], "--html and --dot need a file each"),
+        (&["--html", "sb.order", "mp.order"], "sb.order is no page and no graph, and would be written over"),
+        (&["--dot", "new.order", "mp.order"], "new.order is no page and no graph, and would be written over"),
         (
-            &["--dot", "../models/../models/README.md", "README.md"],
-            "../models/../models/README.md is a model, and would be written over",
+            &["--html", "README.md", "mp.order"],
+            "README.md is no page and no graph, and would be written over",
         ),
+        (&["--dot", "README.md", "mp.order"], "README.md is no page and no graph, and would be written over"),
         (&["--json", "--expect", "sb.order"], "--explain, --json and --expect exclude each other"),
     ] {
         assert_eq!(ends(&run(arguments, b""), 2, ""), format!("order: {what}; see order --help\n"));

@@ -65,12 +65,17 @@ fn robust_is_explained_by_what_it_allows() {
 
 #[test]
 fn fences_stay_fences() {
-    let text = printed(&["--explain", "page-queue.order"], b"", 0);
-    assert!(
-        text.contains("    fences: FADD(f, 0)                               stay seq_cst fences\n"),
-        "{text}"
-    );
-    assert!(!printed(&["--explain", "page-queue-cas.order"], b"", 0).contains("fence"));
+    let fences = |text: &str| text.lines().find(|line| line.contains("fence")).map(str::to_owned);
+    let shown = |lines: &str| Some(format!("    fences: {lines:<40} stay seq_cst fences"));
+    let text = printed(&["--explain", "sb+rmws.order"], b"", 0);
+    assert_eq!(fences(&text), shown("lines 8 and 12"));
+    assert_eq!(fences(&printed(&["--explain", "page-queue-cas.order"], b"", 0)), None);
+    // Every form on every location of its own; an unused location has none.
+    let model =
+        "values 2\nlocations f g h spare\nthread\n  r0 := FADD(f, 0)\n  BCAS(g, 0 -> 0)\nthread * 2\n\
+        \x20 r0 := CAS(g, 0 -> 0)\n  r0 := FADD(h, 1)\n";
+    let text = printed(&["--explain", "-"], model.as_bytes(), 0);
+    assert_eq!(fences(&text), shown("lines 4, 5 and 7"));
 }
 
 #[test]
@@ -127,7 +132,7 @@ fn each_file_is_a_line_of_data() {
     assert!(lines[1].starts_with(&start("missing.order", "null")), "{text}");
     assert!(
         lines[2].starts_with(&start("mp.order", "\"RB\""))
-            && lines[2].ends_with("\"explanation\":null,\"error\":null}"),
+            && lines[2].ends_with("\"explanation\":null,\"gaps\":null,\"error\":null}"),
         "{text}"
     );
 }

@@ -1,10 +1,11 @@
 //! The script `./order`: what it builds, and what it hands on. It stands here in a tree of its own, with stand-ins for
 //! the tools that build.
 
-use std::fs;
+use std::fs::{self, File};
 use std::os::unix::fs::{symlink, PermissionsExt};
 use std::path::{Path, PathBuf};
 use std::process::Command;
+use std::time::SystemTime;
 
 use crate::user::{checker, ends, ends_quietly, finish, folder, SB, SB_LINES};
 
@@ -189,9 +190,30 @@ fn what_changes_while_it_is_built_is_built_again() {
 fn what_the_user_has_set_for_other_builds_is_not_meant_here() {
     let tree = Tree::new("set", false);
     tree.write("rust/Cargo.toml", "newer");
-    tree.tool("cargo", "echo \"$CARGO_TARGET_DIR$ORDER_STATICLIB$RUSTFLAGS\" > seen");
+    tree.tool("cargo", "echo \"$CARGO_TARGET_DIR$ORDER_STATICLIB$RUSTFLAGS\" > seen; echo \"$@\" > given");
     let mut shell = tree.shell("./order sb");
     shell.env("CARGO_TARGET_DIR", "elsewhere").env("ORDER_STATICLIB", "mine").env("RUSTFLAGS", "-g");
     ends(&finish(&mut shell, b""), 10, SB_LINES);
     assert_eq!(fs::read_to_string(tree.root.join("seen")).unwrap(), "\n");
+    assert!(fs::read_to_string(tree.root.join("given")).unwrap().contains(" --target-dir rust/target "));
+}
+
+#[test]
+fn what_can_not_be_looked_at_counts_as_changed() {
+    let tree = Tree::new("unseen", false);
+    fs::remove_file(tree.root.join("tools/find")).unwrap();
+    tree.tool("find", "exit 1");
+    tree.tool("rt", "echo \"$@\" >> calls");
+    tree.tool("cargo", "echo cargo >> calls");
+    ends(&finish(&mut tree.shell("./order sb"), b""), 10, SB_LINES);
+    let calls = fs::read_to_string(tree.root.join("calls")).unwrap();
+    assert_eq!(calls, "check order_check\nstaticlib order_check_c\ncargo\n");
+    // A source that was put there with an older time.
+    let tree = Tree::new("older", false);
+    tree.tool("rt", "echo \"$@\" >> calls");
+    ends_quietly(&finish(&mut tree.shell("./order sb"), b""), 10, SB_LINES);
+    let source = File::options().write(true).open(tree.root.join("crates/a")).unwrap();
+    source.set_modified(SystemTime::UNIX_EPOCH).unwrap();
+    ends(&finish(&mut tree.shell("./order sb"), b""), 10, SB_LINES);
+    assert!(fs::read_to_string(tree.root.join("calls")).unwrap().starts_with("check order_check\n"));
 }
