@@ -82,8 +82,8 @@ fn up_to_longest(from: impl Read) -> io::Result<Vec<u8>> {
     Ok(bytes)
 }
 
-/// Whether two names are of one file that is there, also by a link or by another path to it: to write the one is to lose
-/// the other. A device keeps nothing that could be lost, and is none.
+/// Whether two names are of one file that is there, also by a link or by another path to it: to write the one is to
+/// lose the other. A device keeps nothing that could be lost, and is none.
 pub fn is_same_file(one: &str, other: &str) -> bool {
     let kept = |file: &str| metadata(file).ok().filter(Metadata::is_file);
     let [one, other] = [one, other].map(|file| kept(file).map(|found| (found.dev(), found.ino())));

@@ -101,8 +101,8 @@ fn word(before: &[Piece], rest: &[Piece], scope: &Scope) -> Option<String> {
     found.filter(|name| !is_other_step(word, name)).map(|name| format!("did you mean '{name}'?"))
 }
 
-/// Whether a word near that of an atomic step may well be that of a weaker one: ADD and XADD are near FADD, CASA and CASL
-/// near CAS.
+/// Whether a word near that of an atomic step may well be that of a weaker one: ADD and XADD are near FADD, CASA and
+/// CASL near CAS.
 fn is_other_step(word: &str, name: &str) -> bool {
     let ends = |text: &str| {
         let bytes = text.as_bytes();

@@ -54,8 +54,8 @@ pub fn is_hidden(character: char) -> bool {
     }
 }
 
-/// Other characters that most fonts show as nothing: a hyphen for the end of a line alone, joiners, fillers, selectors of
-/// variants, marks of notes and tags.
+/// Other characters that most fonts show as nothing: a hyphen for the end of a line alone, joiners, fillers, selectors
+/// of variants, marks of notes and tags.
 fn has_no_width(character: char) -> bool {
     matches!(
         character,

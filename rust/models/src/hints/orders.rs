@@ -1,7 +1,6 @@
 //! The memory orders of a function of C.
 
-use super::is_end;
-use crate::lexer::Piece::{self, Sign, Word};
+use crate::lexer::Piece::{self, Sign};
 
 /// What the memory orders of an access are, beside those of a model.
 #[derive(Clone, Copy, Debug, PartialEq, Eq)]
@@ -17,12 +16,12 @@ pub enum Orders {
 /// The orders in the arguments of a function, which start here: all after its operands. Some must be there if it is an
 /// explicit one.
 pub fn orders(inside: &[Piece], operands: usize, is_explicit: bool) -> Orders {
-    let arguments = arguments(inside);
-    let given: Vec<_> = arguments
+    let words = words(inside);
+    let given: Vec<_> = words
         .iter()
-        .enumerate()
-        .filter(|(place, argument)| *place >= operands || argument.starts_with(PREFIX))
-        .map(|(_, argument)| argument.strip_prefix(PREFIX).unwrap_or(argument))
+        .filter(|(argument, word)| *argument >= operands || word.starts_with(PREFIX))
+        .map(|(_, word)| word.strip_prefix(PREFIX).unwrap_or(word))
+        .filter(|word| !matches!(*word, "std" | "memory_order"))
         .collect();
     let is_known = |order: &&str| matches!(*order, "seq_cst" | "acq_rel" | "acquire" | "release");
     if !given.iter().all(is_known) || is_explicit && given.is_empty() {
@@ -37,21 +36,18 @@ pub fn orders(inside: &[Piece], operands: usize, is_explicit: bool) -> Orders {
 
 const PREFIX: &str = "memory_order_";
 
-/// The last word of each argument, in small letters; an empty one where it has none.
-fn arguments(inside: &[Piece]) -> Vec<String> {
-    let (mut arguments, mut last, mut open) = (Vec::new(), String::new(), 1);
+/// The words and numbers up to the bracket that ends the arguments, in small letters, each with the number of its
+/// argument.
+fn words(inside: &[Piece]) -> Vec<(usize, String)> {
+    let (mut words, mut argument, mut open) = (Vec::new(), 0, 1);
     for piece in inside {
         match piece {
             Sign("(") => open += 1,
+            Sign(")") if open == 1 => break,
             Sign(")") => open -= 1,
-            Sign(",") if open == 1 => arguments.push(std::mem::take(&mut last)),
-            Word(word) => last = word.to_lowercase(),
-            _ => {}
-        }
-        if open == 0 || is_end(piece) {
-            break;
+            Sign(",") if open == 1 => argument += 1,
+            _ => words.extend(piece.text().map(|text| (argument, text.to_lowercase()))),
         }
     }
-    arguments.push(last);
-    arguments
+    words
 }

@@ -120,14 +120,15 @@ fn a_relaxed_access_gets_no_line() {
         "relaxed",
         "order",
         "5",
-        "",
+        "memory_order_relaxed /* acquire */",
+        "weak ? memory_order_relaxed : memory_order_acquire",
     ] {
         lines(
             none,
             &[
                 &format!("r0 := atomic_load_explicit(&x, {order});"),
                 &format!("load(x, {order})"),
-                &format!("atomic_store_explicit(&x, (1), {order})"),
+                &format!("store(x, (r0 + 1) / 2, {order});"),
                 &format!("atomic_store_explicit(&x, f(1, 2), {order})"),
                 &format!("r0 := atomic_fetch_add_explicit(&x, 1, {order})"),
                 &format!("r0 := atomic_exchange_explicit(&x, 1, {order})"),
