@@ -2,9 +2,10 @@
 #![forbid(unsafe_code)]
 
 use std::fmt::Display;
-use std::fs::File;
+use std::fs::{metadata, File, Metadata};
 use std::io::{self, ErrorKind, Read, Write};
 use std::os::fd::AsFd;
+use std::os::unix::fs::MetadataExt;
 use std::process::{exit, ExitCode};
 
 use program::limits::LONGEST_INPUT;
@@ -79,6 +80,14 @@ fn up_to_longest(from: impl Read) -> io::Result<Vec<u8>> {
         return Err(io::Error::other("longer than 1 MiB, which no model is"));
     }
     Ok(bytes)
+}
+
+/// Whether two names are of one file that is there, also by a link or by another path to it: to write the one is to
+/// lose the other. A device keeps nothing that could be lost, and is none.
+pub fn is_same_file(one: &str, other: &str) -> bool {
+    let kept = |file: &str| metadata(file).ok().filter(Metadata::is_file);
+    let [one, other] = [one, other].map(|file| kept(file).map(|found| (found.dev(), found.ino())));
+    one.is_some() && one == other
 }
 
 /// Why standard output was not written.

@@ -71,13 +71,21 @@ fn report(path: &Path) -> Result<String, String> {
     fs::read_to_string(path).map_err(|error| format!(" no report {}: {error}", path.display()))
 }
 
-/// The verdict of the one line `# expect RB` or `# expect NR`.
+/// The verdict of the one line `# expect RB` or `# expect NR`. A comment that looks like another one is a mistake: it
+/// may be the line that was meant.
 pub fn expected(text: &str) -> Result<Verdict, String> {
-    let mut lines = text.lines().filter(|line| line.starts_with("# expect"));
-    match (lines.next().and_then(verdict), lines.next()) {
-        (Some(verdict), None) => Ok(verdict),
-        _ => Err(format!(" expected one line '# expect RB' or '# expect NR'{}", found_instead(text))),
+    let near: Vec<_> = text.lines().enumerate().filter(|(_, line)| is_near(line)).collect();
+    match near[..] {
+        [(_, line)] => verdict(line),
+        _ => None,
     }
+    .ok_or_else(|| format!(" expected one line '# expect RB' or '# expect NR'{}", found_instead(&near)))
+}
+
+/// Whether it is a comment that says, in some spelling, what is expected.
+fn is_near(line: &str) -> bool {
+    let comment = line.trim_start().strip_prefix('#').map(|comment| comment.trim_start().to_lowercase());
+    comment.is_some_and(|comment| comment.starts_with("expect"))
 }
 
 fn verdict(line: &str) -> Option<Verdict> {
@@ -88,13 +96,8 @@ fn verdict(line: &str) -> Option<Verdict> {
     }
 }
 
-/// The first comment that looks like such a line and is none, or the second that is one.
-fn found_instead(text: &str) -> String {
-    let is_near = |line: &str| {
-        let comment = line.trim_start().strip_prefix('#').map(|comment| comment.trim_start().to_lowercase());
-        comment.is_some_and(|comment| comment.starts_with("expect"))
-    };
-    let near: Vec<_> = text.lines().enumerate().filter(|(_, line)| is_near(line)).collect();
+/// Of the comments that look like such a line, with their numbers, the first that is none, or the second that is one.
+fn found_instead(near: &[(usize, &str)]) -> String {
     let wrong = near.iter().find(|(_, line)| verdict(line).is_none());
     match wrong.or(near.get(1)) {
         Some((number, line)) => format!(", found '{}' on line {}", shortened(line), number + 1),

@@ -1,6 +1,7 @@
 //! Hints for what is nearly right. There is one only where the line leaves little doubt about what was meant.
 
 mod accesses;
+mod orders;
 mod signs;
 mod values;
 mod words_of_c;
@@ -16,7 +17,14 @@ use crate::nearest::nearest;
 const LONGEST_HINT: usize = 400;
 
 /// For a write of what is no operand.
-const IN_A_REGISTER: &str = "work the value out in a register first";
+const IN_A_REGISTER: &str = "work the value out in a free register first";
+
+/// Stands for a register that the line does not name. Only who writes the model knows which one is free, and another in
+/// its place might change the verdict.
+const FREE: &str = "rN";
+
+/// What follows a hint with [`FREE`] in it.
+const IS_FREE: &str = ", where rN is a free register";
 
 /// The mistake with a hint, if there is one.
 pub fn add(mistake: Mistake, cursor: &Cursor, scope: &Scope) -> Mistake {
@@ -36,7 +44,7 @@ pub fn add(mistake: Mistake, cursor: &Cursor, scope: &Scope) -> Mistake {
         .or_else(|| signs::hint(line, &rest, scope))
         .or_else(|| accesses::hint(line, &rest, scope))
         .or_else(|| values::hint(line, &rest, scope))
-        .or_else(|| words_of_c::hint(line, &rest).filter(|_| !no_line))
+        .or_else(|| words_of_c::hint(line, &rest, scope).filter(|_| !no_line))
         .or_else(|| word(line, &rest, scope).filter(|_| !no_word))
         .filter(|hint| hint.len() <= LONGEST_HINT);
     Mistake { hint, ..mistake }
@@ -90,7 +98,25 @@ fn word(before: &[Piece], rest: &[Piece], scope: &Scope) -> Option<String> {
         [.., Word("goto")] => nearest(word, &labels),
         _ => nearest(word, &[KEYWORDS, &others].concat()),
     };
-    found.map(|name| format!("did you mean '{name}'?"))
+    found.filter(|name| !is_other_step(word, name)).map(|name| format!("did you mean '{name}'?"))
+}
+
+/// Whether a word near that of an atomic step may well be that of a weaker one: ADD and XADD are near FADD, CASA and
+/// CASL near CAS.
+fn is_other_step(word: &str, name: &str) -> bool {
+    let ends = |text: &str| {
+        let bytes = text.as_bytes();
+        [bytes.first(), bytes.last()].map(|end| end.map(u8::to_ascii_lowercase))
+    };
+    matches!(name, "FADD" | "CAS" | "BCAS") && ends(word) != ends(name)
+}
+
+/// The register in front of `:=`, or else a free one, with what is to be said of that.
+fn target<'a>(before: &[Piece<'a>], scope: &Scope) -> (&'a str, &'static str) {
+    match before {
+        [Word(reg), Sign(":="), ..] if scope.register_of(Word(reg)).is_some() => (reg, ""),
+        _ => (FREE, IS_FREE),
+    }
 }
 
 /// After this piece comes a value or a register.

@@ -4,7 +4,7 @@
 use std::fs;
 use std::process::ExitCode;
 
-use command::{asked, name_of, read, tell, write_out, Unwritten, FAILED, USAGE};
+use command::{asked, is_same_file, name_of, read, tell, write_out, Unwritten, FAILED, USAGE};
 use models::{assemble, disassemble};
 
 const HELP: &str = "\
@@ -16,6 +16,7 @@ order_asm: the text form of a program to its bytes
     order_asm --version                the version
 
 Without FILE, or with -, it reads standard input. Without -o it writes standard output.
+OUT must not be FILE.
 Where the input has a mistake, a message goes to standard error, nothing else is written,
 and the exit status is 1. It is 2 where the command line has one. An input of more than
 1 MiB is refused.
@@ -99,7 +100,13 @@ fn task(arguments: Vec<String>) -> Result<Task, String> {
             input = Some(argument);
         }
     }
-    Ok(Task { disassemble, input: input.unwrap_or(STANDARD_INPUT.into()), output })
+    let input = input.unwrap_or(STANDARD_INPUT.into());
+    match &output {
+        Some(file) if input != STANDARD_INPUT && is_same_file(&input, file) => {
+            Err(format!("expected another file than the input after -o, found {}", name_of(file)))
+        }
+        _ => Ok(Task { disassemble, input, output }),
+    }
 }
 
 /// The output for all of the input: it is written only after this, so that a mistake leaves none.

@@ -50,8 +50,28 @@ pub fn is_hidden(character: char) -> bool {
         '\n' | '\t' => false,
         '\u{61c}' | '\u{200b}'..='\u{200f}' | '\u{2028}'..='\u{202e}' | '\u{2060}'..='\u{206f}' => true,
         '\u{feff}' | '\u{fffe}' | '\u{ffff}' => true,
-        other => other.is_control(),
+        other => other.is_control() || has_no_width(other),
     }
+}
+
+/// Other characters that most fonts show as nothing: a hyphen for the end of a line alone, joiners, fillers, selectors
+/// of variants, marks of notes and tags.
+fn has_no_width(character: char) -> bool {
+    matches!(
+        character,
+        '\u{ad}'
+            | '\u{34f}'
+            | '\u{115f}'
+            | '\u{1160}'
+            | '\u{180e}'
+            | '\u{3164}'
+            | '\u{fe00}'..='\u{fe0f}'
+            | '\u{ffa0}'
+            | '\u{fff9}'..='\u{fffb}'
+            | '\u{e0001}'
+            | '\u{e0020}'..='\u{e007f}'
+            | '\u{e0100}'..='\u{e01ef}'
+    )
 }
 
 /// Some editors start a new line here, though no line of a model ends.

@@ -148,6 +148,11 @@ fn an_expectation_in_another_spelling_is_named() {
     }
     assert_eq!(message("# expect RB\n\n# expect NR"), format!("{plain}, found '# expect NR' on line 3"));
     assert_eq!(message("# expect RB\n# expected"), format!("{plain}, found '# expected' on line 2"));
+    // One good line does not hide another that is nearly one, before it or after it.
+    for near in ["#expect NR", "# Expect NR", "  # expect NR", "# expect RB "] {
+        assert_eq!(message(&format!("# expect RB\n{near}")), format!("{plain}, found '{near}' on line 2"));
+        assert_eq!(message(&format!("{near}\n# expect RB")), format!("{plain}, found '{near}' on line 1"));
+    }
     let long = format!("# expects{}", "é".repeat(3_000));
     assert_eq!(message(&long), format!("{plain}, found '# expects{}..' on line 1", "é".repeat(31)));
 }

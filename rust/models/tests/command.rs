@@ -67,6 +67,39 @@ fn it_writes_the_file_that_o_names() {
     assert_eq!(fs::read(&file).unwrap(), SB.as_bytes());
 }
 
+/// It would be lost: the output is no model, and what the input said in comments is nowhere else.
+#[test]
+fn an_output_that_is_the_input_is_refused() {
+    let test = "same";
+    let folder = directory(test);
+    let input = folder.join("sb.order");
+    for name in ["hard", "soft", "other"] {
+        let _ = fs::remove_file(folder.join(name));
+    }
+    fs::write(&input, SB).unwrap();
+    fs::hard_link(&input, folder.join("hard")).unwrap();
+    std::os::unix::fs::symlink("sb.order", folder.join("soft")).unwrap();
+    for out in ["sb.order", "./sb.order", "../same/sb.order", "hard", "soft", input.to_str().unwrap()] {
+        let message = format!("expected another file than the input after -o, found {out}");
+        let message = format!("order_asm: {message}; see order_asm --help\n");
+        bad(&run(test, &["sb.order", "-o", out], b""), 2, &message);
+        bad(&run(test, &["-o", out, "--dis", "sb.order"], b""), 2, &message);
+        assert_eq!(fs::read(&input).unwrap(), SB.as_bytes(), "{out}");
+    }
+    // Another file with the same text is no such file; neither is a device, nor a file - beside standard input.
+    fs::write(folder.join("other"), SB).unwrap();
+    good(&run(test, &["sb.order", "-o", "other"], b""), b"");
+    assert_eq!(fs::read(folder.join("other")).unwrap(), SB_BYTES);
+    bad(
+        &run(test, &["/dev/null", "-o", "/dev/null"], b""),
+        1,
+        "/dev/null:1:1: expected 'values', found the end of the file\n",
+    );
+    fs::write(folder.join("-"), SB).unwrap();
+    good(&run(test, &["-o", "-"], SB.as_bytes()), b"");
+    assert_eq!(fs::read(folder.join("-")).unwrap(), SB_BYTES);
+}
+
 #[test]
 fn a_mistake_has_its_file_line_and_column_and_leaves_no_output() {
     let test = "mistake";

@@ -23,7 +23,16 @@ fn refused() -> Vec<char> {
     let directions = ('\u{202a}'..='\u{202e}').chain('\u{2066}'..='\u{2069}');
     let marks = ['\u{61c}', '\u{200e}', '\u{200f}', '\u{2028}', '\u{2029}'];
     let no_width = ['\u{200b}', '\u{200c}', '\u{200d}', '\u{2060}', '\u{feff}'];
-    controls.chain(directions).chain(marks).chain(no_width).collect()
+    controls.chain(directions).chain(marks).chain(no_width).chain(blank()).collect()
+}
+
+/// Letters, marks and tags that most fonts show as nothing.
+fn blank() -> Vec<char> {
+    let fillers = ['\u{ad}', '\u{34f}', '\u{115f}', '\u{1160}', '\u{180e}', '\u{3164}', '\u{ffa0}'];
+    let notes = '\u{fff9}'..='\u{fffb}';
+    let variants = ('\u{fe00}'..='\u{fe0f}').chain('\u{e0100}'..='\u{e01ef}');
+    let tags = ['\u{e0001}'].into_iter().chain('\u{e0020}'..='\u{e007f}');
+    fillers.into_iter().chain(notes).chain(variants).chain(tags).collect()
 }
 
 /// The message for a hidden character at a place.
@@ -38,7 +47,7 @@ fn hidden(place: &str, character: char) -> String {
 
 #[test]
 fn a_hidden_character_is_a_mistake_wherever_it_stands() {
-    assert_eq!(refused().len(), 63 + 9 + 5 + 5);
+    assert_eq!(refused().len(), 63 + 9 + 5 + 5 + 7 + 3 + 256 + 97);
     for c in refused() {
         let at = |place: &str, before: &str| {
             let text = MODEL.replacen(before, &format!("{before}{c}"), 1);
@@ -79,8 +88,7 @@ fn lines_end_with_lf_or_cr_lf() {
 #[test]
 fn what_is_seen_may_stand_in_a_comment() {
     let plain = assemble(MODEL.as_bytes());
-    for comment in ["\tc", "Grüße", "待つ", "שלום", "🦀", "e\u{301}", "a\u{a0}b", "a\u{ad}b", "⚠\u{fe0f}"]
-    {
+    for comment in ["\tc", "Grüße", "待つ", "שלום", "🦀", "e\u{301}", "a\u{a0}b", "⚠", "가"] {
         assert_eq!(assemble(MODEL.replace("# c", &format!("# {comment}")).as_bytes()), plain, "{comment}");
         assert!(!comment.contains(is_hidden), "{comment}");
     }
@@ -92,7 +100,7 @@ fn what_does_not_show_alone_has_its_number_in_a_message() {
         ('\u{a0}', "the character U+00A0"),
         ('\u{3000}', "the character U+3000"),
         ('\u{301}', "the character U+0301"),
-        ('\u{e0041}', "the character U+E0041"),
+        ('\u{2003}', "the character U+2003"),
         ('é', "'é'"),
         ('$', "'$'"),
     ] {

@@ -1,10 +1,9 @@
 //! Lines with more than one access, or with another form of one.
 
 use super::values::taking_away;
-use super::{comes_operand, is_end, is_location, IN_A_REGISTER};
+use super::{comes_operand, is_end, is_location, FREE, IN_A_REGISTER, IS_FREE};
 use crate::instruction::Scope;
 use crate::lexer::Piece::{self, Number, Sign, Stray, Word};
-use crate::names::register_name;
 
 /// The hint for an access that is no line of its own.
 pub fn hint(before: &[Piece], rest: &[Piece], scope: &Scope) -> Option<String> {
@@ -17,16 +16,18 @@ pub fn hint(before: &[Piece], rest: &[Piece], scope: &Scope) -> Option<String> {
 /// An access in another form.
 fn form(before: &[Piece], rest: &[Piece]) -> Option<String> {
     match (before, rest) {
-        ([.., Word(op @ ("CAS" | "BCAS")), Sign("("), Word(x), Sign(","), a], [Sign(","), b, ..]) => {
-            Some(format!("write '{op}({x}, {} -> {})'", a.text()?, b.text()?))
-        }
+        (
+            [.., Word(op @ ("CAS" | "BCAS")), Sign("("), Word(x), Sign(","), a],
+            [Sign(","), b, Sign(")"), ..],
+        ) => Some(format!("write '{op}({x}, {} -> {})'", a.text()?, b.text()?)),
         ([] | [_, Sign(":=")], [Word(op @ ("CAS" | "FADD")), ..]) => {
-            Some(format!("a register gets the value found: 'r0 := {op}(..)'"))
+            Some(format!("a register gets the value found: '{FREE} := {op}(..)'{IS_FREE}"))
         }
         ([_, Sign(":=")], [Word(op @ ("BCAS" | "wait")), ..]) => Some(format!("'{op}' stands without ':='")),
         ([Word("wait"), Sign("("), Word(x)], [Sign(")"), ..])
         | ([Word("wait"), Sign("(")], [Stray('!'), Word(x), ..]) => Some(format!(
-            "a wait is for one value, as in 'wait({x} = 1)'; where several will do, write a loop"
+            "a wait is for one value, such as 'wait({x} = 0)' or 'wait({x} = 1)'; \
+             where several will do, write a loop"
         )),
         _ => None,
     }
@@ -36,14 +37,12 @@ fn form(before: &[Piece], rest: &[Piece]) -> Option<String> {
 fn several(before: &[Piece], rest: &[Piece], scope: &Scope) -> Option<String> {
     let is_location = |piece: &Piece| is_location(piece, scope);
     match (before, rest) {
-        ([Word(x), Sign(":=")], [Word(y), Sign("+"), a, ..]) if x == y && !is_location(a) => {
-            sum(x, *a, scope)
-        }
-        ([Word("wait" | "BCAS"), .., last], [y, ..]) if comes_operand(last) && is_location(y) => {
-            Some(format!("read {y} into a register first; if each round reads it anew, write a loop instead"))
-        }
+        ([Word(x), Sign(":=")], [Word(y), Sign("+"), a, ..]) if x == y && !is_location(a) => sum(x, *a),
+        ([Word("wait" | "BCAS"), .., last], [y, ..]) if comes_operand(last) && is_location(y) => Some(
+            format!("read {y} into a free register first; if each round reads it anew, write a loop instead"),
+        ),
         ([.., last], [y, ..]) if comes_operand(last) && is_location(y) => {
-            Some(format!("read {y} into a register first, in a line of its own"))
+            Some(format!("read {y} into a free register first, in a line of its own"))
         }
         ([Word(reg), Sign(":="), x], [Sign("+" | "=" | "<") | Stray('-'), a, ..]) if is_location(x) => {
             Some(read(reg, x, *a, scope))
@@ -56,19 +55,18 @@ fn several(before: &[Piece], rest: &[Piece], scope: &Scope) -> Option<String> {
 }
 
 /// For `x := x + a`. In C that is no atomic step: an FADD in its place would be stronger.
-fn sum(x: &str, a: Piece, scope: &Scope) -> Option<String> {
-    let reg = register_name(if scope.register_of(a) == Some(0) { 1 } else { 0 });
+fn sum(x: &str, a: Piece) -> Option<String> {
     let a = a.text()?;
     Some(format!(
-        "write '{reg} := {x}', '{reg} := {reg} + {a}' and '{x} := {reg}', on three lines; \
-         if it is one atomic step, '{reg} := FADD({x}, {a})'"
+        "write '{FREE} := {x}', '{FREE} := {FREE} + {a}' and '{x} := {FREE}', on three lines; \
+         if it is one atomic step, '{FREE} := FADD({x}, {a})'{IS_FREE}"
     ))
 }
 
 /// For `reg := x + a`, and for a difference or a comparison.
 fn read(reg: &str, x: &Piece, a: Piece, scope: &Scope) -> String {
     if scope.register_of(a) == scope.register_of(Word(reg)) {
-        return format!("a read stands alone: read {x} into another register first");
+        return format!("a read stands alone: read {x} into a free register first");
     }
     format!("a read stands alone: write '{reg} := {}', and go on with {reg}", x.text().unwrap_or_default())
 }
@@ -80,7 +78,7 @@ pub fn change(before: &[Piece], rest: &[Piece], scope: &Scope) -> Option<String>
         return (is_end(end) && is_location(&Word(x), scope)).then(|| {
             format!(
                 "if it is one atomic step, write '{reg} := FADD({x}, {added})'; \
-                 else a read, a sum in another register and a write{wraps}"
+                 else a read, a sum in a free register and a write{wraps}"
             )
         });
     }
@@ -90,7 +88,7 @@ pub fn change(before: &[Piece], rest: &[Piece], scope: &Scope) -> Option<String>
         return Some(format!("write '{x} := {x} + {added}'{wraps}"));
     }
     // In C it depends on the type of x whether this is one atomic step.
-    let sum = sum(x, if is_less { Number(&added) } else { a }, scope)?;
+    let sum = sum(x, if is_less { Number(&added) } else { a })?;
     is_location(&Word(x), scope).then(|| sum + &wraps)
 }
 

@@ -1,14 +1,16 @@
 //! Signs of other languages.
 
-use super::{is_end, is_location, IN_A_REGISTER};
+use super::{is_end, is_location, target, FREE, IN_A_REGISTER, IS_FREE};
 use crate::instruction::Scope;
 use crate::lexer::Piece::{self, Number, Sign, Stray, Word};
 use crate::names::KEYWORDS;
 
 /// The hint for a sign that has no place there.
 pub fn hint(before: &[Piece], rest: &[Piece], scope: &Scope) -> Option<String> {
-    let hint = structure(before, rest).or_else(|| comparison(before, rest));
-    hint.map(String::from).or_else(|| not(before, rest, scope)).or_else(|| chain(before, rest, scope))
+    let hint = structure(before, rest).or_else(|| other_form(before, rest)).map(String::from);
+    hint.or_else(|| comparison(before, rest, scope))
+        .or_else(|| not(before, rest, scope))
+        .or_else(|| chain(before, rest, scope))
 }
 
 /// Comments, ends of lines, blocks and brackets.
@@ -25,29 +27,35 @@ fn structure(before: &[Piece], rest: &[Piece]) -> Option<&'static str> {
     })
 }
 
-/// Comparisons, and `=` in place of `:=`.
-fn comparison(before: &[Piece], rest: &[Piece]) -> Option<&'static str> {
+/// Comparisons in a wait or with two signs, and `=` in place of `:=`.
+fn other_form(before: &[Piece], rest: &[Piece]) -> Option<&'static str> {
     Some(match (before, rest) {
-        ([Word("if"), _], [Sign("=" | "<") | Stray('!' | '>'), ..]) => {
-            "compare in a line of its own: 'r1 := r0 = 2', then 'if r1 goto ..'"
-        }
         ([Word("wait"), Sign("("), _], [Sign("<") | Stray('!' | '>'), ..]) => {
             "a wait is for one value; where several will do, write a loop: read, compare, jump back"
         }
         ([.., Sign("=")], [Sign("="), ..]) => "a comparison has one '='",
         ([Word(word)], [Sign("="), ..]) if !KEYWORDS.contains(word) => "':=' assigns, '=' compares",
-        ([.., Sign("<")], [Sign("="), ..]) => {
-            "there is no '<=': for a <= b write 'r0 := b < a', then 'r0 := r0 = 0'"
-        }
-        (_, [Stray('>'), Sign("="), ..]) => {
-            "there is no '>=': for a >= b write 'r0 := a < b', then 'r0 := r0 = 0'"
-        }
-        (_, [Stray('>'), ..]) => "there is no '>': for a > b write 'r0 := b < a'",
-        (_, [Stray('!'), Sign("="), ..]) => {
-            "there is no '!=': for a != b write 'r0 := a = b', then 'r0 := r0 = 0'"
-        }
         _ => return None,
     })
+}
+
+/// Comparisons that no line makes, or not this one.
+fn comparison(before: &[Piece], rest: &[Piece], scope: &Scope) -> Option<String> {
+    let (reg, is_free) = target(before, scope);
+    let not = |sign: &str, line: &str| {
+        let first = format!("there is no '{sign}': for a {sign} b write '{reg} := {line}'");
+        Some(format!("{first}, then '{reg} := {reg} = 0'{is_free}"))
+    };
+    match (before, rest) {
+        ([Word("if"), _], [Sign("=" | "<") | Stray('!' | '>'), ..]) => Some(format!(
+            "compare in a line of its own: '{FREE} := r0 = 2', then 'if {FREE} goto ..'{IS_FREE}"
+        )),
+        ([.., Sign("<")], [Sign("="), ..]) => not("<=", "b < a"),
+        (_, [Stray('>'), Sign("="), ..]) => not(">=", "a < b"),
+        (_, [Stray('>'), ..]) => Some(format!("there is no '>': for a > b write '{reg} := b < a'{is_free}")),
+        (_, [Stray('!'), Sign("="), ..]) => not("!=", "a = b"),
+        _ => None,
+    }
 }
 
 /// For `r0 := !r1`, and where `!` stands in another line.
@@ -56,7 +64,9 @@ fn not(before: &[Piece], rest: &[Piece], scope: &Scope) -> Option<String> {
         return None;
     };
     match before {
-        [Word("if")] => Some("there is no '!': write 'r1 := r0 = 0', then 'if r1 goto ..'".into()),
+        [Word("if")] => {
+            Some(format!("there is no '!': write '{FREE} := r0 = 0', then 'if {FREE} goto ..'{IS_FREE}"))
+        }
         [x, Sign(":=")] if is_location(x, scope) => Some(IN_A_REGISTER.into()),
         [Word(reg), Sign(":=")] if is_location(&Word(a), scope) => {
             Some(format!("there is no '!': write '{reg} := {a}', then '{reg} := {reg} = 0'"))

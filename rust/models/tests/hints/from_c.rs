@@ -1,6 +1,6 @@
 //! Lines of C, and instructions of processors.
 
-use crate::{line, lines};
+use crate::{line, lines, three};
 
 #[test]
 fn fences() {
@@ -40,25 +40,19 @@ fn a_weaker_fence_does_not_become_a_full_one() {
 /// In C it depends on the type of x whether this is one atomic step: an FADD alone might be stronger.
 #[test]
 fn changes_in_place() {
-    let three = |reg: &str, a: &str| {
-        format!(
-            "write '{reg} := x', '{reg} := {reg} + {a}' and 'x := {reg}', on three lines; \
-             if it is one atomic step, '{reg} := FADD(x, {a})'"
-        )
-    };
     let wraps = |added: u8, less: u8| format!("; sums wrap: with 'values 3', '+ {added}' takes {less} away");
-    lines(&three("r0", "1"), &["x++", "x++;", "++x", "++x;", "end: x++", "x += 1", "x += 1;", "x++ // why"]);
-    lines(&three("r0", "full"), &["x += full"]);
-    lines(&three("r1", "mine"), &["x += mine"]);
-    lines(&(three("r0", "2") + &wraps(2, 1)), &["x--", "x--;", "--x", "x -= 1"]);
-    lines(&(three("r0", "1") + &wraps(1, 2)), &["x -= 2"]);
+    lines(&three("1"), &["x++", "x++;", "++x", "++x;", "end: x++", "x += 1", "x += 1;", "x++ // why"]);
+    lines(&three("full"), &["x += full"]);
+    lines(&three("mine"), &["x += mine"]);
+    lines(&(three("2") + &wraps(2, 1)), &["x--", "x--;", "--x", "x -= 1"]);
+    lines(&(three("1") + &wraps(1, 2)), &["x -= 2"]);
     lines("write 'r1 := r1 + 1'", &["r1++", "++r1;", "r1 += 1"]);
     lines("write 'mine := mine + r2'", &["mine += r2"]);
     lines(&("write 'r1 := r1 + 2'".to_string() + &wraps(2, 1)), &["r1--", "--r1", "r1 -= 1"]);
     let fetched = |a: &str| {
         format!(
             "if it is one atomic step, write 'r1 := FADD(x, {a})'; \
-             else a read, a sum in another register and a write"
+             else a read, a sum in a free register and a write"
         )
     };
     lines(&fetched("1"), &["r1 := x++", "r1 := x++;"]);
@@ -68,34 +62,22 @@ fn changes_in_place() {
 
 #[test]
 fn functions_on_atomics() {
+    let is_free = ", where rN is a free register";
+    lines("a load is a line of its own: 'r0 := x'", &["r0 := atomic_load(&x);", "r0 := load(x)"]);
+    lines("a load is a line of its own: 'mine := x'", &["mine := load(x)"]);
     lines(
-        "a load is a line of its own: 'r0 := x'",
-        &["r0 := atomic_load(&x);", "load(x)", "r0 := load(x)", "x := load(flag)", "if load(x) goto again"],
-    );
-    lines(
-        "a load is a line of its own: 'r0 := x'",
-        &["r0 := atomic_load_explicit(&x, memory_order_relaxed);"],
+        &format!("a load is a line of its own: 'rN := x'{is_free}"),
+        &["load(x)", "x := load(flag)", "if load(x) goto again"],
     );
     lines("a store is the line 'x := 1'", &["atomic_store(&x, 1);", "store(x, 1)", "STORE(x, 1)"]);
+    lines("a fetch-and-add is the line 'r0 := FADD(x, 1)'", &["r0 := atomic_fetch_add(&x, 1)"]);
+    lines(&format!("a fetch-and-add is the line 'rN := FADD(x, 1)'{is_free}"), &["fetch_add(x, 1)"]);
+    lines(&compare_exchange("r0", ""), &["r0 := atomic_compare_exchange_strong(&x, &e, 1)"]);
+    lines(&compare_exchange("rN", is_free), &["if compare_exchange_strong(&x, &e, 1) goto again"]);
     lines(
-        "a fetch-and-add is the line 'r0 := FADD(x, 1)'",
-        &["r0 := atomic_fetch_add(&x, 1)", "fetch_add(x, 1)"],
-    );
-    lines(
-        "a compare-exchange is the line 'r0 := CAS(x, 0 -> 1)': r0 gets the value found",
-        &[
-            "r0 := atomic_compare_exchange_strong(&x, &e, 1)",
-            "if atomic_compare_exchange_weak(&x, &e, 1) goto again",
-        ],
-    );
-    lines(
-        "an exchange is a loop: 'r0 := FADD(x, 0)', then 'r1 := CAS(x, r0 -> 1)', and again if r1 is not r0",
-        &[
-            "r0 := XCHG(x, 1)",
-            "r0 := atomic_exchange(&x, 1)",
-            "swap(x, 1)",
-            "r0 := atomic_exchange_explicit(&x, 1)",
-        ],
+        "an exchange is a loop: 'rN := FADD(x, 0)', then 'rM := CAS(x, rN -> 1)', \
+         and again if rM is not rN, where rN and rM are free registers",
+        &["r0 := XCHG(x, 1)", "r0 := atomic_exchange(&x, 1)", "swap(x, 1)"],
     );
     for text in [
         "r0 := load",
@@ -108,6 +90,89 @@ fn functions_on_atomics() {
     ] {
         assert_eq!(line(text), None, "{text}");
     }
+}
+
+fn compare_exchange(reg: &str, after: &str) -> String {
+    format!("a compare-exchange is the line '{reg} := CAS(x, 0 -> 1)': {reg} gets the value found{after}")
+}
+
+/// It may fail where a CAS does not.
+#[test]
+fn a_weak_compare_exchange_is_one_in_a_loop() {
+    let weak = compare_exchange("r0", "; a weak one only in a loop that tries again");
+    lines(&weak, &["r0 := atomic_compare_exchange_weak(&x, &e, 1)"]);
+    lines(
+        &weak,
+        &["r0 := atomic_compare_exchange_weak_explicit(&x, &e, 1, memory_order_acq_rel, memory_order_acquire)"],
+    );
+}
+
+/// A line in its place would be stronger.
+#[test]
+fn a_relaxed_access_gets_no_line() {
+    let none = "all accesses of a model are acquire and release: \
+                it has no relaxed ones, and a verdict says nothing about them";
+    for order in [
+        "memory_order_relaxed",
+        "memory_order_consume",
+        "std::memory_order_relaxed",
+        "memory_order::relaxed",
+        "relaxed",
+        "order",
+        "5",
+        "memory_order_relaxed /* acquire */",
+        "weak ? memory_order_relaxed : memory_order_acquire",
+    ] {
+        lines(
+            none,
+            &[
+                &format!("r0 := atomic_load_explicit(&x, {order});"),
+                &format!("load(x, {order})"),
+                &format!("store(x, (r0 + 1) / 2, {order});"),
+                &format!("atomic_store_explicit(&x, f(1, 2), {order})"),
+                &format!("r0 := atomic_fetch_add_explicit(&x, 1, {order})"),
+                &format!("r0 := atomic_exchange_explicit(&x, 1, {order})"),
+                &format!("r0 := compare_exchange_strong(x, e, 1, {order})"),
+                &format!(
+                    "r0 := atomic_compare_exchange_weak_explicit(&x, &e, 1, memory_order_seq_cst, {order})"
+                ),
+            ],
+        );
+    }
+    // Without its operand, and without its order.
+    lines(none, &["r0 := load(memory_order_relaxed)", "r0 := atomic_load_explicit(&x)"]);
+    assert_eq!(line("r0 := CAS(x, 0, 1, memory_order_relaxed)"), None);
+    assert_eq!(line("r0 := FADD(x, 1, memory_order_relaxed)"), None);
+}
+
+#[test]
+fn an_access_of_a_stronger_order_gets_its_line() {
+    let load = "a load is a line of its own: 'r0 := x'";
+    lines(load, &["r0 := atomic_load_explicit(&x, memory_order_acquire);", "r0 := load(x, acquire)"]);
+    lines(
+        load,
+        &["r0 := atomic_load_explicit(&x, memory_order_seq_cst)", "r0 := load(x, std::memory_order_acquire)"],
+    );
+    let store = "a store is the line 'x := 1'";
+    lines(
+        store,
+        &["atomic_store_explicit(&x, 1, memory_order_release)", "store(x, f(1, 2), memory_order::seq_cst)"],
+    );
+    let add = "a fetch-and-add is the line 'r0 := FADD(x, 1)'";
+    lines(add, &["r0 := atomic_fetch_add_explicit(&x, 1, memory_order_acq_rel) // relaxed, relaxed"]);
+    // Half of the access is relaxed in C.
+    let half = "; it is acq_rel, make it so in C too";
+    lines(
+        &format!("{add}{half}"),
+        &[
+            "r0 := atomic_fetch_add_explicit(&x, 1, memory_order_acquire)",
+            "r0 := atomic_fetch_add_explicit(&x, 1, memory_order_release)",
+        ],
+    );
+    lines(
+        &compare_exchange("r0", half),
+        &["r0 := atomic_compare_exchange_strong_explicit(&x, &e, 1, memory_order_acquire, memory_order_acquire)"],
+    );
 }
 
 #[test]
@@ -137,12 +202,12 @@ fn negations_and_waits() {
     lines("there is no '!': write 'r1 := mine = 0'", &["r1 := !mine"]);
     lines("there is no '!': write 'r0 := x', then 'r0 := r0 = 0'", &["r0 := !x"]);
     lines(
-        "there is no '!': write 'r1 := r0 = 0', then 'if r1 goto ..'",
+        "there is no '!': write 'rN := r0 = 0', then 'if rN goto ..', where rN is a free register",
         &["if !r0 goto again", "if !x goto again"],
     );
-    lines("work the value out in a register first", &["x := !r1", "x := !x"]);
+    lines("work the value out in a free register first", &["x := !r1", "x := !x"]);
     lines(
-        "a wait is for one value, as in 'wait(x = 1)'; where several will do, write a loop",
+        "a wait is for one value, such as 'wait(x = 0)' or 'wait(x = 1)'; where several will do, write a loop",
         &["wait(x)", "wait(x);", "wait(!x)"],
     );
 }

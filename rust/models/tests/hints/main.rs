@@ -38,16 +38,25 @@ fn headers(expected: &str, of: &[&str]) {
     }
 }
 
-/// The lines that stand in quotes in a hint, all of which assemble.
+/// The lines that stand in quotes in a hint, all of which assemble with free registers.
 #[track_caller]
 fn offered(line: &str) -> Vec<String> {
     let hint = self::line(line).unwrap();
+    let hint = hint.replace("rN", "r2").replace("rM", "r3");
     let quoted: Vec<String> = hint.split('\'').skip(1).step_by(2).map(String::from).collect();
     for line in &quoted {
         let text = format!("values 3\nlocations x f\nregisters mine = r0\nthread\n{line}\n");
         assert!(assemble(text.as_bytes()).is_ok(), "{line}");
     }
     quoted
+}
+
+/// The hint for a change of x in place by so much.
+fn three(a: &str) -> String {
+    format!(
+        "write 'rN := x', 'rN := rN + {a}' and 'x := rN', on three lines; \
+         if it is one atomic step, 'rN := FADD(x, {a})', where rN is a free register"
+    )
 }
 
 #[test]
@@ -65,9 +74,15 @@ fn comparisons_of_other_languages() {
     lines("there is no '<=': for a <= b write 'r0 := b < a', then 'r0 := r0 = 0'", &["r0 := r1 <= 2"]);
     lines("there is no '>=': for a >= b write 'r0 := a < b', then 'r0 := r0 = 0'", &["r0 := r1 >= 2"]);
     lines("there is no '>': for a > b write 'r0 := b < a'", &["r0 := r1 > 2"]);
+    lines("there is no '!=': for a != b write 'r0 := a = b', then 'r0 := r0 = 0'", &["r0 := r1 != 2"]);
     lines(
-        "there is no '!=': for a != b write 'r0 := a = b', then 'r0 := r0 = 0'",
-        &["r0 := r1 != 2", "mine := 1 != full"],
+        "there is no '!=': for a != b write 'mine := a = b', then 'mine := mine = 0'",
+        &["mine := 1 != full"],
+    );
+    lines("there is no '>': for a > b write 'rN := b < a', where rN is a free register", &["x := r1 > 2"]);
+    lines(
+        "there is no '>=': for a >= b write 'rN := a < b', then 'rN := rN = 0', where rN is a free register",
+        &["x := r1 >= 2"],
     );
     lines(
         "a wait is for one value; where several will do, write a loop: read, compare, jump back",
@@ -81,7 +96,7 @@ fn comparisons_of_other_languages() {
         ],
     );
     lines(
-        "compare in a line of its own: 'r1 := r0 = 2', then 'if r1 goto ..'",
+        "compare in a line of its own: 'rN := r0 = 2', then 'if rN goto ..', where rN is a free register",
         &["if r0 = 1 goto again", "if mine == 1 goto again", "if r0 != 1 goto again", "if r0 < 2 goto again"],
     );
     lines(
@@ -167,6 +182,12 @@ fn where_nothing_is_nearly_right_there_is_no_hint() {
         "r0 := !z",
         "r0 := ! 1",
         "thread * 3 4",
+        // These may be weaker than an atomic step that both reads and writes.
+        "r0 := ADD(x, 1)",
+        "r0 := add(x, 1)",
+        "r0 := XADD(x, 1)",
+        "r0 := CASA(x, 0 -> 1)",
+        "r0 := casl(x, 0 -> 1)",
     ] {
         assert_eq!(line(text), None, "{text}");
     }
