@@ -5,15 +5,19 @@ use std::fs::{self, File};
 use std::os::unix::fs::{symlink, PermissionsExt};
 use std::path::{Path, PathBuf};
 use std::process::Command;
-use std::time::SystemTime;
+use std::thread::sleep;
+use std::time::{Duration, SystemTime};
 
 use crate::user::{checker, ends, ends_quietly, finish, folder, SB, SB_LINES};
 
 /// What the script uses of the system, beside what builds.
-const TOOLS: [&str; 16] = [
+const TOOLS: [&str; 17] = [
     "bash", "cat", "cp", "dirname", "env", "find", "mkdir", "mktemp", "mv", "readlink", "rm", "sed", "sh",
-    "tac", "tee", "touch",
+    "sleep", "tac", "tee", "touch",
 ];
+
+/// Longer than the clock of any file system stands still.
+const TICK: Duration = Duration::from_millis(100);
 
 /// A tree with the script, and with all that it builds unless `bare`.
 struct Tree {
@@ -53,6 +57,12 @@ impl Tree {
         let path = self.root.join(name);
         fs::create_dir_all(path.parent().unwrap()).unwrap();
         fs::write(path, text).unwrap();
+    }
+
+    /// Writes a source anew, late enough that its time differs from that of what was there before.
+    fn change(&self, name: &str) {
+        sleep(TICK);
+        self.write(name, "changed");
     }
 
     fn copy(&self, from: &Path, name: &str) {
@@ -159,7 +169,7 @@ fn what_is_missing_is_built_crate_by_crate() {
 #[test]
 fn a_build_that_fails_or_is_broken_off_does_not_count() {
     let tree = Tree::new("fails", false);
-    tree.write("crates/a", "newer than what was made of it");
+    tree.change("crates/a");
     for reason in ["echo 'the reason'; exit 3", "touch target/bin/order_check; echo 'the reason'; kill -9 $$"]
     {
         tree.tool("rt", reason);
@@ -176,8 +186,11 @@ fn a_build_that_fails_or_is_broken_off_does_not_count() {
 #[test]
 fn what_changes_while_it_is_built_is_built_again() {
     let tree = Tree::new("changes", false);
-    tree.write("crates/a", "newer");
-    tree.tool("rt", "case $1 in check) echo changed > crates/a;; esac; echo \"$@\" >> calls");
+    tree.change("crates/a");
+    tree.tool(
+        "rt",
+        "case $1 in check) sleep 0.1; echo changed > crates/a;; esac; sleep 0.1; echo \"$@\" >> calls",
+    );
     ends(&finish(&mut tree.shell("./order sb"), b""), 10, SB_LINES);
     tree.tool("rt", "echo \"$@\" >> calls");
     ends(&finish(&mut tree.shell("./order sb"), b""), 10, SB_LINES);
@@ -189,7 +202,7 @@ fn what_changes_while_it_is_built_is_built_again() {
 #[test]
 fn what_the_user_has_set_for_other_builds_is_not_meant_here() {
     let tree = Tree::new("set", false);
-    tree.write("rust/Cargo.toml", "newer");
+    tree.change("rust/Cargo.toml");
     tree.tool("cargo", "echo \"$CARGO_TARGET_DIR$ORDER_STATICLIB$RUSTFLAGS\" > seen; echo \"$@\" > given");
     let mut shell = tree.shell("./order sb");
     shell.env("CARGO_TARGET_DIR", "elsewhere").env("ORDER_STATICLIB", "mine").env("RUSTFLAGS", "-g");
@@ -212,6 +225,7 @@ fn what_can_not_be_looked_at_counts_as_changed() {
     let tree = Tree::new("older", false);
     tree.tool("rt", "echo \"$@\" >> calls");
     ends_quietly(&finish(&mut tree.shell("./order sb"), b""), 10, SB_LINES);
+    sleep(TICK);
     let source = File::options().write(true).open(tree.root.join("crates/a")).unwrap();
     source.set_modified(SystemTime::UNIX_EPOCH).unwrap();
     ends(&finish(&mut tree.shell("./order sb"), b""), 10, SB_LINES);
