@@ -5,7 +5,7 @@
  *
  *     cc caller.c target/staticlib/liborder_read_c.a
  *
- * README.md lists the checks by their numbers.
+ * docs/FORMAT.md lists the checks by their numbers.
  */
 #ifndef ORDER_READ_H
 #define ORDER_READ_H

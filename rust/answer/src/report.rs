@@ -46,7 +46,7 @@ pub enum Report {
     },
     /// The bytes are no program. All that was lent is unchanged.
     Refused {
-        /// The first check that failed, 1 to 9, as README.md at the root of the repository lists them.
+        /// The first check that failed, 1 to 9, as docs/FORMAT.md at the root of the repository lists them.
         number: u8,
     },
 }
