@@ -28,3 +28,18 @@ pub fn run_at(at: &Path, command: &Path, arguments: &[&str], input: &[u8]) -> Ou
 pub fn run(command: &str, arguments: &[&str], input: &[u8]) -> Output {
     run_at(Path::new("."), Path::new(command), arguments, input)
 }
+
+/// Fails for a file of the tests that no `mod` of their main file names: it would not be compiled, and its tests be lost
+/// unseen.
+///
+/// # Panics
+///
+/// There.
+pub fn every_file_is_named(tests: &Path, main: &str) {
+    for file in std::fs::read_dir(tests).unwrap() {
+        let path = file.unwrap().path();
+        let name = path.file_stem().unwrap().to_string_lossy();
+        let is_named = main.contains(&format!("\nmod {name};\n"));
+        assert!(name == "main" || is_named, "{} is not named in main.rs", path.display());
+    }
+}

@@ -9,3 +9,9 @@ mod reasons;
 mod script;
 mod tables;
 mod user;
+
+#[test]
+fn every_file_here_is_named_above() {
+    let here = std::path::Path::new(env!("CARGO_MANIFEST_DIR")).join("tests/all");
+    run::every_file_is_named(&here, include_str!("main.rs"));
+}
