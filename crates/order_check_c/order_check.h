@@ -20,13 +20,20 @@
  *             'P', 'R', 2, 2, 2,
  *             'T', 'H', 2, 'I', 'N', 5, 0, 0, 1, 0, 'I', 'N', 6, 0, 1, 0, 0,
  *             'T', 'H', 2, 'I', 'N', 5, 0, 1, 1, 0, 'I', 'N', 6, 0, 0, 0, 0};
- *         const size_t places = 100000;
- *         const size_t table_len = places * ORDER_PLACE_SIZE(2, 2), trace_len = places * ORDER_STEP_BYTES;
+ *         const size_t places = 100000, slots = 2 * places, table_len = places * ORDER_PLACE_SIZE(2, 2);
+ *         size_t trace_len = ORDER_STEP_BYTES;
  *         uint8_t *table = malloc(table_len), *trace = malloc(trace_len);
- *         uint64_t *index = malloc(2 * places * sizeof *index), answer[ORDER_FIELDS];
+ *         uint64_t *index = malloc(slots * sizeof *index), answer[ORDER_FIELDS];
  *         if (!table || !trace || !index)
  *             return 2;
- *         order_check_indexed(program, sizeof program, table, table_len, trace, trace_len, index, 2 * places, answer);
+ *         order_check_indexed(program, sizeof program, table, table_len, trace, trace_len, index, slots, answer);
+ *         if (answer[ORDER_NUMBER] == ORDER_TRACE_SHORT) {
+ *             // Not robust, and the trace is too short for the steps that show it: lend what they need, call again.
+ *             trace_len = (size_t)answer[ORDER_STEPS];
+ *             if (!(trace = realloc(trace, trace_len)))
+ *                 return 2;
+ *             order_check_indexed(program, sizeof program, table, table_len, trace, trace_len, index, slots, answer);
+ *         }
  *         switch (answer[ORDER_VERDICT]) {
  *         case ORDER_RB:
  *             puts("robust: all accesses may be release and acquire");
@@ -41,7 +48,7 @@
  *                    (int)answer[ORDER_VALUE], (int)answer[ORDER_LOCATION]);
  *             return 1;
  *         default:
- *             // ORDER_FU, ORDER_REFUSED, and what later versions may add: nothing is said about the program.
+ *             // ORDER_FU, bytes that are no program, and what later versions may add: not known to be robust.
  *             printf("not decided: check %d\n", (int)answer[ORDER_NUMBER]);
  *             return 2;
  *         }
@@ -57,8 +64,9 @@
 extern "C" {
 #endif
 
-/* Raised by every version that changes what a caller sees. 1 had a byte a step; 2 has four, with the access. */
-#define ORDER_CHECK_VERSION 2
+/* Raised by every version that changes what a caller sees. 1 had a byte a step; 2 has four, with the access; 3 wants
+   exactly the bytes of the steps for ORDER_TRACE_SHORT, where 2 promised two bounds. A caller made for 2 works. */
+#define ORDER_CHECK_VERSION 3
 
 /* The bytes of a place of the table, for T threads and L locations. */
 #define ORDER_PLACE_SIZE(T, L) \
@@ -76,12 +84,12 @@ enum {
        with ORDER_FU; 0 for ORDER_RB and ORDER_NR. */
     ORDER_NUMBER = 1,
 
-    /* How many places of the table are written, for ORDER_RB, ORDER_NR and ORDER_FU. */
+    /* How many places of the table are written, for ORDER_RB, ORDER_NR and ORDER_FU; 0 for ORDER_TRACE_SHORT, though as
+       many are written as for ORDER_NR. */
     ORDER_COUNT = 2,
 
-    /* For ORDER_NR how many steps, not bytes, the run in the trace has; for ORDER_TRACE_SHORT a length of the trace, in
-       bytes, that suffices, at least four times the number of steps and at most four times the number of places
-       written. */
+    /* For ORDER_NR how many steps, not bytes, the run in the trace has; for ORDER_TRACE_SHORT the wanted length of the
+       trace: exactly the bytes that the steps need, ORDER_STEP_BYTES for each. */
     ORDER_STEPS = 3,
 
     /* For ORDER_NR, as all that follows: the lowest thread, from 1, that has a witness after these steps. A witness is
@@ -122,8 +130,9 @@ enum {
 
 /* The two checks after the search. */
 enum {
-    /* With ORDER_REFUSED: the program is not robust, but the trace is too short for steps that show it. A trace of the
-       length in ORDER_STEPS has room for them. */
+    /* With ORDER_REFUSED: the program is not robust, but the trace is too short for the steps that show it. In a table
+       as long as this call's, a trace of as many bytes as ORDER_STEPS says, or more, gets ORDER_NR; every shorter one
+       gets ORDER_TRACE_SHORT with the same number of bytes. */
     ORDER_TRACE_SHORT = 10,
 
     /* With ORDER_FU. */
@@ -168,8 +177,8 @@ enum {
  *
  * trace, trace_len: for ORDER_NR its first ORDER_STEP_BYTES * answer[ORDER_STEPS] bytes get the steps of the run, one
  *     after the other; its other bytes stay as they are, and for every other verdict all of them do. A trace of
- *     ORDER_STEP_BYTES for each place is never too short. One that is too short gets ORDER_TRACE_SHORT: lend as many
- *     bytes as answer[ORDER_STEPS] says, and call again.
+ *     ORDER_STEP_BYTES for each place is never too short. One that is too short gets ORDER_TRACE_SHORT: lend the
+ *     answer[ORDER_STEPS] bytes that it needs, with a table as long as before, and call again. The call searches anew.
  *
  * answer: gets ORDER_FIELDS numbers.
  *

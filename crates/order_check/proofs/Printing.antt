@@ -60,12 +60,13 @@ module _ (buffer : List ℕ) {kept : ℕ} (lentTable table lentTrace trace out :
   printed {after} {count} same (counted, (short, is)) =
       let fits : length (textOf r trace) ≤ length out = omega (arith, short, sizes .text-fits, same) in (
         λ input front.
+            let known = front-decides input front in
             record {
-              report = r;
-              checked = front-decides input front;
-              never-short = never-short input lentTable table lentTrace trace (front-decides input front)
+              checked = subst (Checked (readProgram input) lentTable table lentTrace trace) (known .answered) known;
+              never-short = never-short input (length lentTable) (length lentTrace)
                   (omega (arith, sizes .table-is, sizes .trace-is));
-              whole = text-whole (textOf r trace) out fits is counted;
+              whole = text-whole (textOf r trace) out fits is counted
+                  ∙ ap (λ (q : Report). textOf q trace) (known .answered);
             },
         text-counted (textOf r trace) out fits is counted,
       )

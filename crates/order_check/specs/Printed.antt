@@ -1,13 +1,13 @@
--- What is printed: document 01, "The printing program", with document 02, Point 1.
+-- What is printed: document 01, "The printing program", with document 02, Points 1 and 2.
 use Prim.Native.Nat.{ℕ, _+_, _*_, _≤_, _<_}
 use mathlib.Core.Path.{_≡_}
 use mathlib.Core.List.{List}
 use lib.ListN.{length, take}
 use Rattle.limits.specs.Limits.{maxThreads, maxLines}
 use Rattle.program.specs.Format.{readProgram, sizePR, sizeTH, sizeIN}
-use Rattle.verdicts.specs.declared.Report.{Report}
 use Rattle.verdicts.specs.declared.Report.the-variants.{Short}
 use Rattle.report.specs.Text.{textOf, longestText}
+use Rattle.verdicts.specs.Answer.{reportOf}
 use Rattle.verdicts.specs.Checked.{Checked}
 
 -- The bytes of the longest program: a header, and as many threads and lines as there can be.
@@ -26,14 +26,14 @@ pub record Sizes (input kept table trace buffer : ℕ) : Type 0 where
   -- The longest text fits.
   pub text-fits : longestText trace ≤ buffer
 
--- The report on all of standard input, with all that the checker promises of it, and its text.
+-- The definition's report on all of standard input, with all that the checker promises of it, and its text.
 pub record Printed (input lentTable table lentTrace trace text : List ℕ) : Type 0 where
-  pub report : Report
-  pub checked : Checked (readProgram input) lentTable table lentTrace trace report
+  pub checked : Checked (readProgram input) lentTable table lentTrace trace
+      (reportOf input (length lentTable) (length lentTrace))
   -- The trace always has four bytes for each step.
-  pub never-short : (wanted : ℕ) → report ≡ Short wanted → ⊥
+  pub never-short : (wanted : ℕ) → reportOf input (length lentTable) (length lentTrace) ≡ Short wanted → ⊥
   -- The text is whole.
-  pub whole : text ≡ textOf report trace
+  pub whole : text ≡ textOf (reportOf input (length lentTable) (length lentTrace)) trace
 
 -- The same for every input whose front was kept in the buffer: nothing describes what is read from standard input.
 abbrev pub PrintedFor : (buffer : List ℕ) (kept : ℕ) (lentTable table lentTrace trace text : List ℕ) → Type 0

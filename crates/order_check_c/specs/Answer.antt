@@ -2,6 +2,7 @@
 use Prim.Native.Nat.{ℕ}
 use mathlib.Core.Path.{_≡_}
 use mathlib.Core.List.{List, [], _∷_}
+use lib.ListN.{length}
 use Rattle.program.specs.Program.{Program}
 use Rattle.program.specs.Steps.{kindNumber}
 use Rattle.program.specs.Outcome.{Outcome}
@@ -10,6 +11,7 @@ use Rattle.program.specs.ThreadNumber.{threadNumber}
 use Rattle.verdicts.specs.Number.{checkNumber}
 use Rattle.verdicts.specs.declared.Report.{Report}
 use Rattle.verdicts.specs.declared.Report.the-variants.{Robust, Ended, Full, Short, Refused}
+use Rattle.verdicts.specs.Answer.{reportTo}
 use Rattle.verdicts.specs.Checked.{Checked}
 
 -- Verdict, number, count, steps, thread, kind, location and value.
@@ -30,8 +32,8 @@ numbersOf (Full count) = eight 2 (checkNumber (Full count)) count 0 0 0 0 0
 numbersOf (Short wanted) = eight 3 (checkNumber (Short wanted)) 0 wanted 0 0 0 0
 numbersOf (Refused number) = eight 3 (checkNumber (Refused number)) 0 0 0 0 0 0
 
--- The numbers of a report that keeps all that the checker promises of it.
+-- The numbers are those of the definition's report for the bytes and the two lent lengths, and all that the checker
+-- promises holds of that report.
 pub record Told (o : Outcome Program) (lentTable table lentTrace trace numbers : List ℕ) : Type 0 where
-  pub report : Report
-  pub told : numbers ≡ numbersOf report
-  pub checked : Checked o lentTable table lentTrace trace report
+  pub told : numbers ≡ numbersOf (reportTo o (length lentTable) (length lentTrace))
+  pub checked : Checked o lentTable table lentTrace trace (reportTo o (length lentTable) (length lentTrace))

@@ -1,4 +1,4 @@
--- Answer and trace by the search, and the law that they are those by graphs and schedules.
+-- Report and trace by the search, and the law that they are those by graphs and schedules.
 use Prim.Native.Nat.{ℕ, _*_}
 use mathlib.Core.Path.{_≡_, refl, ap, _∙_}
 use mathlib.Core.Bool.{cond}
@@ -20,11 +20,13 @@ use Rattle.place_bytes.specs.Layout.{placeSize}
 use Rattle.verdicts.proofs.Computed.{readOn, accepted-valid, by-search, shown-by-steps}
 use Rattle.verdicts.proofs.Promises.{found-reaches}
 use Rattle.verdicts.specs.Search.{verdictOf}
-use Rattle.verdicts.specs.Answer.{Answer, turnedDown, placesIn, reported, answerTo, written, tracedBy, traceAfter}
+use Rattle.verdicts.specs.Answer.{placesIn, endingReport, reported, reportTo, written, tracedBy, traceAfter}
+use Rattle.verdicts.specs.declared.Report.{Report}
+use Rattle.verdicts.specs.declared.Report.the-variants.{Refused}
 
--- The answer, and the trace at exit.
+-- The report, and the trace at exit.
 pub record Result : Type 0 where
-  pub answer : Answer
+  pub report : Report
   pub trace : List ℕ
 
 -- The trace by the search: what the steps show is computed on situations.
@@ -38,7 +40,7 @@ tracedOn p (found x e) trace =
 abbrev handedBack : Program → (trace : List ℕ) → Verdict (Entry Situation) Ending → Result
 handedBack p trace v =
     record {
-      answer = reported (length (v .places)) (length trace) (v .outcome);
+      report = reported (length (v .places)) (length trace) (v .outcome);
       trace = tracedOn p (v .outcome) trace;
     }
 
@@ -54,28 +56,28 @@ same-trace valid N trace (found x f) e =
     (shown-by-steps valid (x .path) (x .key) (found-reaches valid N x f e))
 
 unfoldable searched : Outcome Program → (tableLength : ℕ) (trace : List ℕ) → Result
-searched (refused number) tableLength trace = record { answer = turnedDown number; trace = trace }
+searched (refused number) tableLength trace = record { report = Refused number; trace = trace }
 searched (accepted p) tableLength trace = handedBack p trace (searchedOn p (placesIn p tableLength))
 
 -- Opened, it computes.
 unfoldable pub resultBySearch : (bytes : List ℕ) (tableLength : ℕ) (trace : List ℕ) → Result
-unfolding searched readOn searchedOn placesIn placeSize reported tracedOn shownOn kindNumber labelBytes flatMap
+unfolding searched readOn searchedOn placesIn placeSize reported endingReport tracedOn shownOn kindNumber labelBytes flatMap
 resultBySearch bytes = searched (readOn bytes)
 
 abbrev resultOf : Outcome Program → (tableLength : ℕ) (trace : List ℕ) → Result
 resultOf o tableLength trace =
-    record { answer = answerTo o tableLength (length trace); trace = traceAfter o tableLength trace }
+    record { report = reportTo o tableLength (length trace); trace = traceAfter o tableLength trace }
 
 outcome-by-search : (bytes : List ℕ) (o : Outcome Program) → readProgram bytes ≡ o → (tableLength : ℕ) (trace : List ℕ)
     → resultOf o tableLength trace ≡ searched o tableLength trace
-unfolding searched answerTo traceAfter
+unfolding searched reportTo traceAfter
 outcome-by-search bytes (refused number) e tableLength trace = refl
 outcome-by-search bytes (accepted p) e tableLength trace =
     let valid = accepted-valid bytes e in
     let N = placesIn p tableLength in
     let v = verdictOf p N in
     ap
-    (λ (after : List ℕ). record { answer = reported (length (v .places)) (length trace) (v .outcome); trace = after })
+    (λ (after : List ℕ). record { report = reported (length (v .places)) (length trace) (v .outcome); trace = after })
     (same-trace valid N trace (v .outcome) refl)
     ∙ ap (handedBack p trace) (by-search valid N)
 

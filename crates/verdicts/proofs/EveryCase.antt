@@ -12,7 +12,7 @@ abbrev computed : Case → Result
 computed c = resultBySearch (c .bytes) (c .tableLength) (c .trace)
 
 abbrev said : Case → Result
-said c = record { answer = c .answer; trace = c .traceAtExit }
+said c = record { report = c .report; trace = c .traceAtExit }
 
 -- One test over the table.
 computed-as-said : map computed cases ≡ map said cases
@@ -33,6 +33,6 @@ every-case-holds c m =
     result-by-search (c .bytes) (c .tableLength) (c .trace)
     ∙ member-mapped-alike computed said cases computed-as-said m in
     record {
-      answered = ap (λ (r : Result). r .answer) same;
+      answered = ap (λ (r : Result). r .report) same;
       traced = ap (λ (r : Result). r .trace) same;
     }

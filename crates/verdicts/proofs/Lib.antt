@@ -7,6 +7,6 @@ pub mod Earliest
 pub mod AnswerLaws
 pub mod BySearch
 pub mod EveryCase
-pub mod Answers
 pub mod Kept
+pub mod CallAgain
 pub mod LongTrace

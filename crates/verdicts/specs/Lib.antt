@@ -1,7 +1,6 @@
 pub mod Search
 pub mod Answer
 pub mod Number
-pub mod Report
 pub mod Promises
 pub mod Checked
 pub mod Table

@@ -1,4 +1,5 @@
--- Document 01's number of each report.
+-- Document 01's number of each report: "a definition gives this paper's number and values for each of its cases. The
+-- promises use that definition." The values are the case's own fields.
 use Prim.Native.Nat.{ℕ}
 use Rattle.verdicts.specs.declared.Report.{Report}
 use Rattle.verdicts.specs.declared.Report.the-variants.{Robust, Ended, Full, Short, Refused}

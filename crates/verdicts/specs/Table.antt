@@ -1,5 +1,5 @@
--- Document 01, section "Cases, marked * where proved", with the traces of document 02, Point 1: the starred cases as
--- entries of one table.
+-- Document 01, section "Cases, marked * where proved", with the traces and the wanted length of document 02, Points 1
+-- and 2: the starred cases as entries of one table.
 use Prim.Native.Nat.{ℕ, _-_}
 use mathlib.Core.Path.{_≡_}
 use mathlib.Core.List.{List, [], _∷_, _++_}
@@ -7,25 +7,27 @@ use lib.ListN.{length}
 use Rattle.program.specs.declared.Kind.{Kind}
 use Rattle.program.specs.declared.Kind.the-variants.{Read, Write}
 use Rattle.program.specs.Format.{readProgram}
-use Rattle.verdicts.specs.Answer.{Answer, robust, ended, placesFull, traceShort, turnedDown, answerOf, traceAfter}
+use Rattle.verdicts.specs.Answer.{reportOf, traceAfter}
+use Rattle.verdicts.specs.declared.Report.{Report}
+use Rattle.verdicts.specs.declared.Report.the-variants.{Robust, Ended, Full, Short, Refused}
 
--- What is handed in, the answer, and the lent trace at exit.
+-- What is handed in, the report, and the lent trace at exit.
 pub record Case : Type 0 where
   pub bytes : List ℕ
   pub tableLength : ℕ
   pub trace : List ℕ
-  pub answer : Answer
+  pub report : Report
   pub traceAtExit : List ℕ
 
 -- The definitions give what the case says.
 pub record Holds (c : Case) : Type 0 where
-  pub answered : answerOf (c .bytes) (c .tableLength) (length (c .trace)) ≡ c .answer
+  pub answered : reportOf (c .bytes) (c .tableLength) (length (c .trace)) ≡ c .report
   pub traced : traceAfter (readProgram (c .bytes)) (c .tableLength) (c .trace) ≡ c .traceAtExit
 
 -- "NR, count, number of steps, thread, kind .., location and stale value". The thread is numbered from 1.
-abbrev notRobust : (count steps thread : ℕ) (kind : Kind) (location value : ℕ) → Answer
+abbrev notRobust : (count steps thread : ℕ) (kind : Kind) (location value : ℕ) → Report
 notRobust count steps thread kind location value =
-    ended count steps (record { thread = thread - 1; kind = kind; location = location; value = value })
+    Ended count steps (record { thread = thread - 1; kind = kind; location = location; value = value })
 
 -- "PR, T, L, K", "TH, n" and "IN, op, reg, target, A, B", with their marks in ASCII.
 abbrev header : (T L K : ℕ) → List ℕ
@@ -112,40 +114,41 @@ abbrev lent : List ℕ
 lent = lentTwelve ++ 6 ∷ 5 ∷ []
 
 -- A case in which the trace stays.
-abbrev staying : (bytes : List ℕ) (tableLength : ℕ) (trace : List ℕ) → Answer → Case
-staying bytes tableLength trace answer =
-    record { bytes = bytes; tableLength = tableLength; trace = trace; answer = answer; traceAtExit = trace }
+abbrev staying : (bytes : List ℕ) (tableLength : ℕ) (trace : List ℕ) → Report → Case
+staying bytes tableLength trace report =
+    record { bytes = bytes; tableLength = tableLength; trace = trace; report = report; traceAtExit = trace }
 
 -- A case in which the trace gets the steps.
-abbrev getting : (bytes : List ℕ) (tableLength : ℕ) (trace : List ℕ) → Answer → (traceAtExit : List ℕ) → Case
-getting bytes tableLength trace answer traceAtExit =
-    record { bytes = bytes; tableLength = tableLength; trace = trace; answer = answer; traceAtExit = traceAtExit }
+abbrev getting : (bytes : List ℕ) (tableLength : ℕ) (trace : List ℕ) → Report → (traceAtExit : List ℕ) → Case
+getting bytes tableLength trace report traceAtExit =
+    record { bytes = bytes; tableLength = tableLength; trace = trace; report = report; traceAtExit = traceAtExit }
 
 -- "The place size for T = L = 2 is 59", and for T = L = 1 it is 26.
 unfoldable pub cases : List Case
 cases =
     -- "SB .. 413 lent bytes: NR, count 7." "NR 7 3 2 R 0 0", with its three steps. "412: 11, count 6."
     getting sb 413 lent (notRobust 7 3 2 Read x 0) (sbSteps ++ 6 ∷ 5 ∷ [])
-    ∷ staying sb 412 lent (placesFull 6)
+    ∷ staying sb 412 lent (Full 6)
     -- "MP .. 767: RB 13." "766: 11, count 12."
-    ∷ staying mp 767 lent (robust 13)
-    ∷ staying mp 766 lent (placesFull 12)
+    ∷ staying mp 767 lent (Robust 13)
+    ∷ staying mp 766 lent (Full 12)
     -- "2+2W .. NR 8 3 2 W 0 0 with steps 1, 1, 2.": eight places.
     ∷ getting twoPlusTwoW 472 lent (notRobust 8 3 2 Write x 0) (twoPlusTwoWSteps ++ 6 ∷ 5 ∷ [])
     -- "Barrier .. RB 7.": seven places
-    ∷ staying barrier 413 lent (robust 7)
+    ∷ staying barrier 413 lent (Robust 7)
     -- "PR 1 1 2, TH 0. 26 bytes: RB 1." "25: 11, count 0."
-    ∷ staying nothing 26 lent (robust 1)
-    ∷ staying nothing 25 lent (placesFull 0)
-    -- "Check 10 then wants four bytes for each step (12 for SB)": with a trace of 11, 10. The wanted length lies between
-    -- 4 × 3 steps and 4 × 7 places. With 12: NR.
-    ∷ staying sb 413 lentEleven (traceShort 3 7)
+    ∷ staying nothing 26 lent (Robust 1)
+    ∷ staying nothing 25 lent (Full 0)
+    -- "Check 10 then wants four bytes for each step (12 for SB)", "exactly the bytes the trace needs": with a trace of 11
+    -- or of none, 10 with 12 wanted. With 12: NR.
+    ∷ staying sb 413 lentEleven (Short 12)
+    ∷ staying sb 413 [] (Short 12)
     ∷ getting sb 413 lentTwelve (notRobust 7 3 2 Read x 0) sbSteps
     -- "Empty input: 1." "K = 1: 2." "One byte after the last record: 9."
-    ∷ staying [] 413 lent (turnedDown 1)
-    ∷ staying (header 1 1 1 ++ thread 0) 413 lent (turnedDown 2)
-    ∷ staying (nothing ++ 0 ∷ []) 413 lent (turnedDown 9)
+    ∷ staying [] 413 lent (Refused 1)
+    ∷ staying (header 1 1 1 ++ thread 0) 413 lent (Refused 2)
+    ∷ staying (nothing ++ 0 ∷ []) 413 lent (Refused 9)
     -- "op 4 to line n: accepted; to n + 1: 7."
-    ∷ staying (jumping 1) 413 lent (robust 2)
-    ∷ staying (jumping 2) 413 lent (turnedDown 7)
+    ∷ staying (jumping 1) 413 lent (Robust 2)
+    ∷ staying (jumping 2) 413 lent (Refused 7)
     ∷ []

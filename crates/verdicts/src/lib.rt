@@ -1,7 +1,8 @@
-// The numbering of a program's situations, the verdict, the answers by it, all that is promised of a report, and
+// The numbering of a program's situations, the verdict, the reports by it, all that is promised of a report, and
 // document 01's cases: definitions, and the one type that code shares with them. Main results: verdict-by-search and
 // longer-schedules-decide-alike (SearchLaws), closed-is-robust and found-is-not-robust (Promises), found-is-earliest
-// (Earliest), checked (Kept), never-short (LongTrace), every-case-holds (EveryCase).
+// (Earliest), checked (Kept), wanted-gets-not-robust and shorter-wants-the-same (CallAgain), never-short (LongTrace),
+// every-case-holds (EveryCase).
 use rules::Ending;
 
 // What the checker has to say of a program. The thread of an ending is numbered from 0; what is printed counts from 1.
@@ -18,7 +19,7 @@ pub enum Report {
     Full {
         count: usize,
     },
-    // Check 10: the trace is too short, and so long a one is wanted.
+    // Check 10: the trace is too short, and just so many bytes are wanted.
     Short {
         wanted: usize,
     },

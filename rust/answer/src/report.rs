@@ -39,9 +39,10 @@ pub enum Report {
         count: usize,
     },
     /// 10: the program is not robust, but the trace is too short for the steps of the run, and unchanged. The table is
-    /// written as for [`Report::NotRobust`].
+    /// written as for [`Report::NotRobust`]. Its text, `NO 10`, looks like that of a refusal.
     Short {
-        /// A trace of this length, in bytes, suffices: to see the run, call again with one.
+        /// Exactly the bytes that the trace needs. To see the run, call again with as many, or more, and a table as long
+        /// as before: the report is [`Report::NotRobust`]. Every shorter trace gets this report, with this length.
         wanted: usize,
     },
     /// The bytes are no program. All that was lent is unchanged.

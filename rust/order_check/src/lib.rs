@@ -27,6 +27,10 @@
 //! let steps = [step(1, Kind::Write, 0, 1), step(1, Kind::Read, 1, 0), step(2, Kind::Write, 1, 1)];
 //! assert_eq!(steps_in(&trace[..3 * Step::BYTES]).as_deref(), Some(&steps[..]));
 //!
+//! // With a trace that is too short for them the report has exactly the bytes that they need: lend so many, call again.
+//! let Report::Short { wanted } = check(program, &mut table, &mut []) else { panic!("three steps") };
+//! assert_eq!(check(program, &mut table, &mut vec![0; wanted]), stale);
+//!
 //! // The same by an index, of two slots for each place that there will be.
 //! assert_eq!(check_indexed(program, &mut table, &mut trace, &mut [0; 14]), stale);
 //! ```

@@ -62,6 +62,13 @@ fn the_example_of_the_header_runs() {
 
 #[test]
 fn the_version_is_that_of_the_crates() {
-    let version = format!("#define ORDER_CHECK_VERSION {}\n", env!("CARGO_PKG_VERSION_MINOR"));
-    assert!(header().contains(&version), "{version}");
+    let version = env!("CARGO_PKG_VERSION_MINOR");
+    assert!(header().contains(&format!("#define ORDER_CHECK_VERSION {version}\n")), "{version}");
+    let format = Path::new(env!("CARGO_MANIFEST_DIR")).join("../../docs/FORMAT.md");
+    let format = fs::read_to_string(format).unwrap();
+    let whole = env!("CARGO_PKG_VERSION");
+    for said in [format!("version {version} ("), format!(", {whole})."), format!("| `version` | {version},")]
+    {
+        assert!(format.contains(&said), "{said}");
+    }
 }

@@ -143,20 +143,10 @@ int main(void)
     print_run(local_sb, sizeof local_sb);
 
     /* A trace that is too short by a byte, then one of the length that is wanted, in bytes. */
-    uint64_t answer[ORDER_FIELDS];
-    order_check(sb, sizeof sb, table, sizeof table, trace, 3 * ORDER_STEP_BYTES - 1, answer);
-    if (answer[ORDER_VERDICT] != ORDER_REFUSED || answer[ORDER_NUMBER] != ORDER_TRACE_SHORT
-        || answer[ORDER_STEPS] < 3 * ORDER_STEP_BYTES || answer[ORDER_STEPS] > 7 * ORDER_STEP_BYTES) {
-        failures++;
-        printf("a short trace: verdict %d, number %d, wanted %d\n", (int)answer[ORDER_VERDICT],
-               (int)answer[ORDER_NUMBER], (int)answer[ORDER_STEPS]);
-    } else {
-        uint8_t wanted[7 * ORDER_STEP_BYTES];
-        order_check(sb, sizeof sb, table, sizeof table, wanted, (size_t)answer[ORDER_STEPS], answer);
-        if (answer[ORDER_VERDICT] != ORDER_NR || memcmp(wanted, steps, 3 * ORDER_STEP_BYTES) != 0) {
-            failures++;
-            printf("the wanted length: verdict %d\n", (int)answer[ORDER_VERDICT]);
-        }
-    }
+    const uint64_t short_trace[] = {ORDER_REFUSED, ORDER_TRACE_SHORT, 0, 3 * ORDER_STEP_BYTES, 0, 0, 0, 0};
+    expect("SB with a short trace", sb, sizeof sb, 413, 3 * ORDER_STEP_BYTES - 1, short_trace);
+    expect_trace("SB with a short trace", unchanged);
+    expect("SB with the wanted trace", sb, sizeof sb, 413, (size_t)short_trace[ORDER_STEPS], not_robust);
+    expect_trace("SB with the wanted trace", steps);
     return failures == 0 ? 0 : 1;
 }

@@ -33,7 +33,7 @@ pub fn reason(source: &Source, report: &Report) -> String {
             format!("after {these} thread {thread} may {}.", stale(kind, name, value))
         }
         Report::Short { wanted } => {
-            format!("the trace is too short for the steps that show it, which need {wanted} bytes.")
+            format!("the trace is too short for the steps that show it, which need exactly {wanted} bytes.")
         }
         Report::Full { count } => format!(
             "the table is full. There is no witness in the first {}, and there are more.",
@@ -102,7 +102,7 @@ mod tests {
         );
         says(
             Report::Short { wanted: 12 },
-            "Not robust: the trace is too short for the steps that show it, which need 12 bytes.",
+            "Not robust: the trace is too short for the steps that show it, which need exactly 12 bytes.",
         );
         says(Report::Refused { number: 9 }, "No program: check 9 of the input failed first.");
     }

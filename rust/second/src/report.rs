@@ -1,8 +1,7 @@
 //! The verdict and what is written: document 01, sections "Checks", "Table" and "The printing program", with the steps
-//! of document 02, Point 1.
+//! and the wanted length of document 02, Points 1 and 2.
 
 use std::fmt::{self, Display, Formatter};
-use std::ops::RangeInclusive;
 
 use program::{places_available, read};
 
@@ -21,9 +20,8 @@ pub enum Answer {
     NotRobust { count: usize, steps: usize, witness: Witness },
     /// 11, printed as FU
     Full { count: usize },
-    /// 10, with the bounds of the wanted length: "at least the number of steps and at most the number of places
-    /// written", and "four times what they were"
-    ShortTrace { wanted: RangeInclusive<usize> },
+    /// 10, with the wanted length: "exactly the bytes the trace needs"
+    ShortTrace { wanted: usize },
     /// 1 to 9
     Refused { number: u8 },
 }
@@ -78,9 +76,9 @@ impl Search {
         };
         let steps = self.steps_to(found);
         // "Check 10 then wants four bytes for each step".
-        let [wanted, most] = [steps.len(), found].map(|steps| Step::BYTES * steps);
+        let wanted = Step::BYTES * steps.len();
         if trace < wanted {
-            self.written(Answer::ShortTrace { wanted: wanted..=most }, found, Vec::new())
+            self.written(Answer::ShortTrace { wanted }, found, Vec::new())
         } else {
             self.written(Answer::NotRobust { count: found, steps: steps.len(), witness }, found, steps)
         }

@@ -62,19 +62,21 @@ impl Expected {
     }
 }
 
-/// Whether a checker's numbers are the second program's answer. Only the wanted length is free, within its bounds.
+/// Whether a checker's numbers are the second program's answer: nothing of it is free.
 pub(super) fn agrees(found: EightNumbers, expected: &Answer) -> bool {
-    Report::of(found).is_some_and(|found| match *expected {
-        Answer::Robust { count } => found == Report::Robust { count },
+    Report::of(found) == Some(report_of(expected))
+}
+
+fn report_of(answer: &Answer) -> Report {
+    match *answer {
+        Answer::Robust { count } => Report::Robust { count },
         Answer::NotRobust { count, steps, witness: Witness { thread, kind, location, value } } => {
-            found == Report::NotRobust { count, steps, thread, kind: kind_of(kind), location, value }
+            Report::NotRobust { count, steps, thread, kind: kind_of(kind), location, value }
         }
-        Answer::Full { count } => found == Report::Full { count },
-        Answer::ShortTrace { ref wanted } => {
-            matches!(found, Report::Short { wanted: length } if wanted.contains(&length))
-        }
-        Answer::Refused { number } => found == Report::Refused { number },
-    })
+        Answer::Full { count } => Report::Full { count },
+        Answer::ShortTrace { wanted } => Report::Short { wanted },
+        Answer::Refused { number } => Report::Refused { number },
+    }
 }
 
 /// Whether the bytes of a trace, as whoever calls a checker reads them, are the second program's steps.
@@ -95,5 +97,18 @@ fn kind_of(kind: second::Kind) -> Kind {
         second::Kind::Read => Kind::Read,
         second::Kind::Write => Kind::Write,
         second::Kind::Update => Kind::Update,
+    }
+}
+
+#[cfg(test)]
+mod tests {
+    use super::*;
+
+    #[test]
+    fn no_other_wanted_length_agrees() {
+        let expected = Answer::ShortTrace { wanted: 12 };
+        let told = |wanted| [3, 10, 0, wanted, 0, 0, 0, 0];
+        let agreed: Vec<u64> = (0..=100).filter(|&wanted| agrees(told(wanted), &expected)).collect();
+        assert_eq!(agreed, [12]);
     }
 }

@@ -34,9 +34,7 @@ fn sb() {
         assert_eq!(answer(&sb, 412, 12 + more), ([FU, 11, 6, 0, 0, 0, 0, 0], vec![9; 12 + more]));
     }
     for short in 0..12 {
-        let ([verdict, number, count, wanted, rest @ ..], trace) = answer(&sb, 413, short);
-        assert_eq!((verdict, number, count, rest, trace), (REFUSED, 10, 0, [0; 4], vec![9; short]));
-        assert!((12..=28).contains(&wanted), "{wanted}");
+        assert_eq!(answer(&sb, 413, short), ([REFUSED, 10, 0, 12, 0, 0, 0, 0], vec![9; short]));
     }
 }
 

@@ -1,6 +1,7 @@
 //! All tests of this crate in one program, so that the long ones run side by side.
 #![forbid(unsafe_code)]
 
+mod call_again;
 mod checker_cases;
 mod checker_index;
 mod checker_models;
