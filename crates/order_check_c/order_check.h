@@ -65,8 +65,9 @@ extern "C" {
 #endif
 
 /* Raised by every version that changes what a caller sees. 1 had a byte a step; 2 has four, with the access; 3 wants
-   exactly the bytes of the steps for ORDER_TRACE_SHORT, where 2 promised two bounds. A caller made for 2 works. */
-#define ORDER_CHECK_VERSION 3
+   exactly the bytes of the steps for ORDER_TRACE_SHORT, where 2 promised two bounds; 4 writes the first slots of an
+   index only, where 3 wrote all. A caller made for 2 or 3 works, unless it reads the index. */
+#define ORDER_CHECK_VERSION 4
 
 /* The bytes of a place of the table, for T threads and L locations. */
 #define ORDER_PLACE_SIZE(T, L) \
@@ -197,11 +198,15 @@ void order_check(const uint8_t *program, size_t program_len, uint8_t *table, siz
  * order_check for every index of every length, also 0.
  *
  * index, index_len: slots by which the search finds the places of a fingerprint. As many places as half of its length
- *     are found by it, the first ones; those after them are compared one by one. With twice as many slots as there
+ *     (rounded down) are found by it, the first ones; those after them are compared one by one, which is many times
+ *     slower. With twice as many slots as there
  *     will be places the time for a place does not grow with their number, as far as their fingerprints are spread;
  *     without an index, as in order_check, it does. What the index held before changes nothing.
- *     It stays as it is where the bytes are no program. Else all of it is written: 0 in an empty slot, and for a place
- *     its fingerprint times 2^32 plus its number, from 1.
+ *     It stays as it is where the bytes are no program. Else its first slots are used: 1,024 of them, or all where
+ *     there are fewer, and four times as many, at most index_len, whenever there are more places than half of them.
+ *     Those behind them stay as they are, so that a long index costs a small program next to nothing. A slot that is
+ *     used has 0 where it is empty, and for a place its fingerprint times 2^32 plus its number, from 1; docs/LAYOUT.md
+ *     says in which slot a place stands.
  *
  * All that is said above of whose memory it is holds for index too: it is not null, it is aligned as uint64_t is, it
  * does not overlap the others, and nothing else uses it before the call returns.

@@ -1,21 +1,34 @@
 -- What the reader's answer tells its callers: an accepted input, and what its header holds.
-use Prim.Native.Nat.{ℕ, _≤_, _<_}
+use Prim.Native.Nat.{ℕ, _+_, _*_, _≤_, _<_}
 use native.Mathlib.Omega.{arith}
 use mathlib.Core.Path.{_≡_, refl, ap, sym, _∙_}
 use mathlib.Core.List.{List, [], map}
-use lib.ListN.{length, getD, replicate, length-map, List·getD-map}
+use lib.ListN.{length, getD, replicate, length-replicate, length-map, List·getD-append, List·getD-map}
+use lib.Seq.{sets, sets-eq}
 use Rattle.limits.specs.Limits.{maxThreads}
 use Rattle.program.specs.Program.{Line, Program, linesOf}
 use Rattle.program.specs.Outcome.{Outcome}
 use Rattle.program.specs.Outcome.Outcome.{refused, accepted}
 use Rattle.program.specs.Within.{Within}
-use Rattle.program.specs.Format.{readProgram, programIn, programOf}
-use Rattle.format.specs.Answer.{Accepted, reading, headerOf}
+use Rattle.program.specs.Format.{sizePR, sizeIN, readProgram, programIn, programOf}
+use Rattle.program.specs.Layout.{startsFrom, startOf}
+use Rattle.format.specs.Answer.{Accepted, LineAt, reading, headerOf}
 use Rattle.format.specs.declared.Check.the-variants.{Passed, Failed}
 use Rattle.format.specs.declared.Header.{Header}
 use Rattle.format.specs.declared.Reading.{Reading}
 use Rattle.program.proofs.RoundTrip.{accepted-is-spelling}
-use Rattle.format.proofs.AcceptedLines.{front-of-row}
+use Rattle.program.proofs.StartLaws.{length-startsFrom}
+use Rattle.format.proofs.AcceptedLines.{line-fits}
+
+-- What fills the front of a row of zeros is read there.
+front-of-row : (width : ℕ) (l : List ℕ) (t : ℕ) → t < length l → length l ≤ width → getD (sets
+    (replicate width 0) 0 l) t 0 ≡ getD l t 0
+front-of-row width l t h fits =
+    ap (λ (r : List ℕ). getD r t 0) (sets-eq l (replicate width 0) 0 (omega (
+      arith,
+      length-replicate {A = ℕ} width 0,
+    )))
+    ∙ List·getD-append l _ 0 t h
 
 outcome-passed : (o : Outcome Program) → reading o .check ≡ Passed
     → (o ≡ accepted (programIn o)) × (reading o .header ≡ headerOf (programIn o))
@@ -61,3 +74,34 @@ module _ (bytes : List ℕ) (h : Header) (is : Accepted bytes h) where
         accepted-within .few-threads,
       ))
       ∙ List·getD-map length threads t []
+
+  -- Where the lines of each thread start.
+  pub starts-at : (t : ℕ) → t < length (programOf bytes .threads)
+      → getD (h .starts) t 0 ≡ startOf (programOf bytes .threads) t
+  unfolding headerOf startOf
+  starts-at t less =
+      let threads = programOf bytes .threads in
+      let long = length-startsFrom sizePR threads in
+      ap (λ (x : Header). getD (x .starts) t 0) (is .header)
+      ∙ front-of-row maxThreads (startsFrom sizePR threads) t (omega (arith, long)) (omega (
+        arith,
+        long,
+        accepted-within .few-threads,
+      ))
+
+  -- Line i of thread t, where the header counts both, as line_at is to find it.
+  module _ {t i : ℕ} (in-threads : t < h .threads) (in-counts : i < getD (h .counts) t 0) where
+    pub line-counted : LineAt bytes (getD (h .starts) t 0) (h .values) i t
+    line-counted =
+        let there : t < length (programOf bytes .threads) = omega (arith, threads-counted) in
+        record {
+          program = is .program;
+          starts = starts-at t there;
+          values = values-counted;
+          in-program = there;
+          in-lines = omega (arith, lines-counted t there);
+        }
+
+    -- What line_at asks.
+    pub line-inside : getD (h .starts) t 0 + i * sizeIN + sizeIN ≤ length bytes
+    line-inside = line-fits line-counted

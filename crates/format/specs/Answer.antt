@@ -1,17 +1,17 @@
 -- What the types of the code stand for, and each answer of the reader in terms of Format.
-use Prim.Native.Nat.{ℕ}
+use Prim.Native.Nat.{ℕ, _<_}
 use mathlib.Core.Path.{_≡_}
 use mathlib.Core.List.{List, map}
 use lib.ListN.{length, replicate}
 use lib.Seq.{sets}
 use Rattle.limits.specs.Limits.{maxThreads}
-use Rattle.program.specs.Program.{Operand as ModelOperand, Line as ModelLine, Program}
+use Rattle.program.specs.Program.{Operand as ModelOperand, Line as ModelLine, Program, linesOf}
 use Rattle.program.specs.Program.Operand.{constant, register}
 use Rattle.program.specs.Program.Line.{sum, equal, less, jump, write, read, fadd, cas, wait, bcas}
 use Rattle.program.specs.Outcome.{Outcome}
 use Rattle.program.specs.Outcome.Outcome.{refused, accepted}
 use Rattle.program.specs.Format.{sizePR, readProgram, programOf}
-use Rattle.program.specs.Layout.{startsFrom}
+use Rattle.program.specs.Layout.{startsFrom, startOf}
 use Rattle.format.specs.declared.Check.{Check}
 use Rattle.format.specs.declared.Check.the-variants.{Passed, Failed}
 use Rattle.format.specs.declared.Header.{Header}
@@ -51,10 +51,18 @@ unfoldable pub reading : Outcome Program → Reading
 reading (refused number) = refusal number
 reading (accepted p) = record { check = Passed; header = headerOf p }
 
--- An accepted input with its header: what line_at asks of its callers.
+-- An accepted input with its header.
 pub record Accepted (bytes : List ℕ) (h : Header) : Type 0 where
   pub program : readProgram bytes ≡ accepted (programOf bytes)
   pub header : h ≡ headerOf (programOf bytes)
+
+-- Thread t of an accepted input has a line i, its lines start at byte `start`, and k is K.
+pub record LineAt (bytes : List ℕ) (start k i t : ℕ) : Type 0 where
+  pub program : readProgram bytes ≡ accepted (programOf bytes)
+  pub starts : start ≡ startOf (programOf bytes .threads) t
+  pub values : k ≡ programOf bytes .values
+  pub in-program : t < length (programOf bytes .threads)
+  pub in-lines : i < length (linesOf (programOf bytes) t)
 
 -- The operand and the line of the model that the code's stand for.
 unfoldable pub operandMeans : Operand → ModelOperand

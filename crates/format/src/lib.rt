@@ -8,11 +8,11 @@ use records::fields_at;
 use records::is_record;
 use threads::read_threads;
 ghost use mathlib.Core.Path.{_≡_};
-ghost use Prim.Native.Nat.{_<_};
+ghost use Prim.Native.Nat.{ℕ, _+_, _*_, _≤_};
 ghost use lib.ListN.{length, getD};
 ghost use Rattle.program.specs.Program.{Line as ModelLine, linesOf};
-ghost use Rattle.program.specs.Format.{areInRange, readProgram, programOf};
-ghost use Rattle.format.specs.Answer.{noHeader, refusal, reading, Accepted, lineMeans};
+ghost use Rattle.program.specs.Format.{sizeIN, areInRange, readProgram, programOf};
+ghost use Rattle.format.specs.Answer.{noHeader, refusal, reading, LineAt, lineMeans};
 
 // The bytes of each record.
 const PR_SIZE: usize = 5;
@@ -158,13 +158,12 @@ pub fn read(bytes: &[u8]) -> Reading
     read_threads(bytes, t, l, k)
 }
 
-// Line i of thread t of an accepted input, with its header.
-pub fn line_at(bytes: &[u8], header: Header, t: usize, i: usize) -> Line
-    requires { ⌜ Accepted (now bytes) header ⌝ }
-    requires { ⌜ (t < length (programOf (now bytes) .threads)) × (i < length (linesOf (programOf (now bytes)) t)) ⌝ }
-    ensures { λ r. ⌜ ((other : ModelLine) → lineMeans r ≡ getD (linesOf (programOf (now (bytes .entry))) t) i other) ⌝ }
+// Line i of the thread whose lines start at the byte `start` of an accepted input, where K is k. The start and K are
+// taken and not the header, which is too large to be copied for each line.
+pub fn line_at(bytes: &[u8], start: usize, k: usize, i: usize) -> Line
+    requires { ⌜ start + i * sizeIN + sizeIN ≤ length (now bytes) ⌝ }
+    ensures { λ r. ⌜ ((t : ℕ) → LineAt (now (bytes .entry)) start k i t → (other : ModelLine)
+        → lineMeans r ≡ getD (linesOf (programOf (now (bytes .entry))) t) i other) ⌝ }
 {
-    let starts = header.starts;
-    let at = starts[t] + i * IN_SIZE;
-    decode(fields_at(bytes, at), header.values)
+    decode(fields_at(bytes, start + i * IN_SIZE), k)
 }

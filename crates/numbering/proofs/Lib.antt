@@ -14,6 +14,7 @@ pub mod FirstSchedules
 pub mod Table
 pub mod Prefixes
 pub mod Verdicts
+pub mod Asleep
 pub mod Search
 pub mod Simulation
 pub mod Example

@@ -67,7 +67,7 @@ module _ {bytes : List ℕ} {h : Header} (is : Accepted bytes h) (t i : ℕ) whe
           le-ltb i (length (linesOf (programOf bytes) t)) (omega (arith, lines-counted bytes h is t thread-there)),
         ))
 
-    pub line-there : i < getD (h .counts) t 0 → i < length (linesOf (programOf bytes) t)
+    line-there : i < getD (h .counts) t 0 → i < length (linesOf (programOf bytes) t)
     line-there less = omega (arith, lines-counted bytes h is t thread-there)
 
     pub line-answered : i < getD (h .counts) t 0

@@ -146,7 +146,8 @@ pub extern "C" fn order_line(program: &[u8], thread: usize, line: usize) -> Line
             if counts[thread] <= line {
                 return no_line();
             }
-            fields_of(format::line_at(program, header, thread, line))
+            let starts = header.starts;
+            fields_of(format::line_at(program, starts[thread], header.values, line))
         }
     }
 }

@@ -21,6 +21,7 @@ pub mod ReadableRows
 pub mod ReadableFamilies
 pub mod ReadableAfter
 pub mod ReadableExact
+pub mod SituationSteps
 pub mod TestWitness
 pub mod TestEnding
 pub mod TestNamed

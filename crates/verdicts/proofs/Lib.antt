@@ -10,3 +10,4 @@ pub mod EveryCase
 pub mod Kept
 pub mod CallAgain
 pub mod LongTrace
+pub mod Independence

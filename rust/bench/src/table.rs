@@ -6,16 +6,22 @@ use crate::measure::Measured;
 
 /// The first lines of the table.
 pub const HEADER: &str = "\
-| family     | situations | bytes |  plain ms |   a second | ns each | growth | proved ms |   a second | ns each | growth |  ratio |
-|------------|-----------:|------:|----------:|-----------:|--------:|-------:|----------:|-----------:|--------:|-------:|-------:|";
+| family     | situations | bytes |  plain ms |   a second | ns each | growth | proved ms |   a second | ns each | growth |  ratio | steps |  made |
+|------------|-----------:|------:|----------:|-----------:|--------:|-------:|----------:|-----------:|--------:|-------:|-------:|------:|------:|";
+
+/// The line below the table: what its last two columns are.
+pub const FOOTER: &str =
+    "steps and made: successors a situation has, and those that the proved checker's search makes, on average";
 
 /// The line of a program, with the next smaller one of its family.
 pub fn line(name: &str, measured: &Measured, smaller: Option<&Measured>) -> String {
-    let Measured { situations, place, .. } = measured;
+    let Measured { situations, place, successors, .. } = measured;
     let plain = part(measured, smaller, |measured| measured.plain);
     let proved = part(measured, smaller, |measured| measured.proved);
     let ratio = measured.ratio();
-    format!("| {name:<10} | {situations:>10} | {place:>5} | {plain} | {proved} | {ratio:>6.2} |")
+    let [all, made] = [successors.all, successors.made].map(|steps| steps as f64 / *situations as f64);
+    let front = format!("| {name:<10} | {situations:>10} | {place:>5} | {plain} | {proved} |");
+    format!("{front} {ratio:>6.2} | {all:>5.2} | {made:>5.2} |")
 }
 
 /// The columns of one checker.

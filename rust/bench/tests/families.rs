@@ -48,6 +48,14 @@ fn the_second_checker_says_so_too() {
 }
 
 #[test]
+fn each_family_has_small_programs() {
+    for family in ALL {
+        let small: Vec<usize> = family.sizes.iter().take(2).map(|size| size.situations).collect();
+        assert!((8..15).contains(&small[0]) && (25..50).contains(&small[1]), "{}: {small:?}", family.name);
+    }
+}
+
+#[test]
 fn places_of_a_family_have_one_size_and_programs_grow() {
     for family in ALL {
         let shape =

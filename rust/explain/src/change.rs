@@ -82,7 +82,7 @@ pub fn fence_locations(program: &Program) -> Vec<u8> {
 
 /// The lines that access a location.
 fn accesses(program: &Program, location: u8) -> impl Iterator<Item = &Line> {
-    program.threads.iter().flatten().filter(move |line| location_of(line) == Some(location))
+    program.threads.iter().flatten().filter(move |line| line.location() == Some(location))
 }
 
 /// Whether the line is a fence on a location that is never anything but 0.
@@ -92,19 +92,6 @@ fn is_fence(line: &Line) -> bool {
         line,
         Line::Fadd { a: ZERO, .. } | Line::Bcas { a: ZERO, b: ZERO, .. } | Line::Cas { a: ZERO, b: ZERO, .. }
     )
-}
-
-/// The location of the access that a line makes, if it does.
-pub fn location_of(line: &Line) -> Option<u8> {
-    match *line {
-        Line::Write { location, .. }
-        | Line::Read { location, .. }
-        | Line::Fadd { location, .. }
-        | Line::Cas { location, .. }
-        | Line::Wait { location, .. }
-        | Line::Bcas { location, .. } => Some(location),
-        Line::Sum { .. } | Line::Equal { .. } | Line::Less { .. } | Line::Jump { .. } => None,
-    }
 }
 
 /// The read-modify-write that does what the line does and writes the value that it found; nothing where the language

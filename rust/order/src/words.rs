@@ -1,7 +1,7 @@
 //! What a verdict means, in words.
 
 use answer::Report;
-use explain::{fence_locations, location_of};
+use explain::fence_locations;
 use models::Source;
 use program::{Line, Operand, Program};
 
@@ -67,7 +67,7 @@ fn item(text: &str) -> String {
 fn fences(source: &Source) -> Vec<usize> {
     let own = fence_locations(&source.program);
     let is_fence = |thread: usize, line: usize| {
-        location_of(&source.program.threads[thread][line]).is_some_and(|location| own.contains(&location))
+        source.program.threads[thread][line].location().is_some_and(|location| own.contains(&location))
     };
     lines_where(source, is_fence)
 }

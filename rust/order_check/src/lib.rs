@@ -64,8 +64,9 @@ pub fn check(program: &[u8], table: &mut [u8], trace: &mut [u8]) -> Report {
 ///
 /// Places up to half as many as the index has slots are found by it; those after them are compared one by one. With two
 /// slots for each place that there will be, the time for a place hardly grows with their number, as far as their
-/// fingerprints are spread. A call clears the whole index, except where the program is [refused](Report::Refused): that
-/// leaves it as it was.
+/// fingerprints are spread. More slots than that cost next to nothing: only the first ones are used, 1,024 and then
+/// four times as many whenever there are more places than half of them, as far as there are slots. A call clears and
+/// fills these, and leaves those behind them as they were; where the program is [refused](Report::Refused), all of them.
 ///
 /// # Panics
 ///

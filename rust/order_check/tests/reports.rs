@@ -111,3 +111,13 @@ fn an_index_of_any_length_changes_nothing_but_itself() {
         assert_eq!(index.iter().filter(|&&slot| slot != 0).count(), 7.min(slots / 2));
     }
 }
+
+#[test]
+fn of_a_long_index_only_the_front_is_used() {
+    let (mut table, mut trace, mut index) = ([0; SEVEN], [9; THREE], vec![u64::MAX; 3_000]);
+    assert_eq!(check_indexed(SB, &mut table, &mut trace, &mut index), not_robust(Kind::Read));
+    let (front, rest) = index.split_at(1_024);
+    assert!(!front.contains(&u64::MAX));
+    assert_eq!(front.iter().filter(|&&slot| slot != 0).count(), 7);
+    assert!(rest.iter().all(|&slot| slot == u64::MAX));
+}

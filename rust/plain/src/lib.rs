@@ -11,6 +11,7 @@ mod print;
 mod search;
 mod step;
 mod trace;
+mod turns;
 mod update;
 mod witness;
 
@@ -22,6 +23,8 @@ use search::{Outcome, Search};
 use step::Stepper;
 use trace::Places;
 use witness::Witness;
+
+pub use turns::{turns, Turn};
 
 /// Checks program bytes in the lent table and trace.
 pub fn check(program: &[u8], table: &mut [u8], trace: &mut [u8]) -> Report {

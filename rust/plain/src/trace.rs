@@ -31,7 +31,7 @@ impl Places<'_> {
     }
 
     /// The place that a place was reached from, and the thread of the step, from 1; nothing for the first.
-    fn back(&self, number: usize) -> Option<(usize, u8)> {
+    pub fn back(&self, number: usize) -> Option<(usize, u8)> {
         let place = self.place(number);
         let from = place[..BY].iter().rev().fold(0, |from, &byte| 256 * from + usize::from(byte));
         (from != 0).then_some((from, place[BY]))
@@ -57,7 +57,8 @@ impl Places<'_> {
         Some(Access { kind, location, value: self.stepper.value(self.place(to), location) })
     }
 
-    fn place(&self, number: usize) -> &[u8] {
+    /// The bytes of a place.
+    pub fn place(&self, number: usize) -> &[u8] {
         let size = self.stepper.layout.size;
         &self.table[(number - 1) * size..][..size]
     }

@@ -37,6 +37,21 @@ pub enum Line {
     Bcas { location: u8, a: Operand, b: Operand },
 }
 
+impl Line {
+    /// The location of the access that the line makes, if it does.
+    pub fn location(&self) -> Option<u8> {
+        match *self {
+            Line::Write { location, .. }
+            | Line::Read { location, .. }
+            | Line::Fadd { location, .. }
+            | Line::Cas { location, .. }
+            | Line::Wait { location, .. }
+            | Line::Bcas { location, .. } => Some(location),
+            Line::Sum { .. } | Line::Equal { .. } | Line::Less { .. } | Line::Jump { .. } => None,
+        }
+    }
+}
+
 /// "A and B are operands".
 #[derive(Clone, Copy, Debug, PartialEq, Eq)]
 pub enum Operand {

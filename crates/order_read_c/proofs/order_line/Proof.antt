@@ -2,11 +2,11 @@
 use Rattle.program.specs.Program.Line.{wait}
 use Rattle.program.specs.Program.Operand.{constant}
 use Rattle.order_read_c.proofs.Answers.{none-answered, thread-missing, thread-there}
-use Rattle.order_read_c.proofs.Answers.{line-missing, line-there, line-answered}
+use Rattle.order_read_c.proofs.Answers.{line-missing, line-answered}
 use Rattle.limits.specs.Limits.{maxThreads}
 use Rattle.format.specs.Answer.{Accepted}
 use Prim.Native.Nat.{_<_}
-use Rattle.format.proofs.AcceptedHeader.{passed-is-accepted, accepted-within}
+use Rattle.format.proofs.AcceptedHeader.{passed-is-accepted, accepted-within, line-counted, line-inside}
 use native.Mathlib.Omega.{arith}
 use denote.Ref.{now}
 use mathlib.Core.Path.{_∙_, ap}
@@ -57,15 +57,8 @@ returns-2 c =
 
 line-at-requires : tie.Need-line-at-requires
 line-at-requires c κs =
-    let in-threads = c .before in
-    let a = at-start (at-read (in-threads .before)) .args in
-    let is = is-accepted (in-threads .before) in (
-      is,
-      (
-        thread-there is (a .thread) (a .line) (in-threads .if1 .left),
-        line-there is (a .thread) (a .line) (in-threads .if1 .left) (c .if2 .left),
-      ),
-    )
+    let in-threads = c .before .before in
+    line-inside _ _ (is-accepted (in-threads .before)) (in-threads .if1 .left) (c .before .if2 .left)
 
 returns-3 : tie.Need-returns-3
 returns-3 c =
@@ -77,17 +70,19 @@ returns-3 c =
 
 returns-4 : tie.Need-returns-4
 returns-4 c =
-    let in-lines = c .before .before in
+    let in-lines = c .before .before .before in
     let in-threads = in-lines .before in
     let a = at-start (at-read (in-threads .before)) .args in
+    let is = is-accepted (in-threads .before) in
+    let counted = line-counted _ _ is (in-threads .if1 .left) (in-lines .if2 .left) in
     c .fields-of .ensures
-    ∙ ap lineFields (c .before .line-at .ensures (wait 0 (constant 0)))
-    ∙ line-answered (is-accepted (in-threads .before)) (a .thread) (a .line) (in-threads .if1 .left)
-    (in-lines .if2 .left)
+    ∙ ap lineFields (c .before .line-at .ensures (a .thread) counted (wait 0 (constant 0)))
+    ∙ line-answered is (a .thread) (a .line) (in-threads .if1 .left) (in-lines .if2 .left)
 
 pub order-line-spec : {M : Type 1} → statement M
 order-line-spec =
     tie.close
     (tie.spec (λ c κs. search needs) (λ c. search needs) (λ c κs. search needs) (λ c. search needs)
     (λ c κs. search needs) returns (λ c. omega (arith, in-row c)) (λ c. omega (arith, in-row c))
-    (λ c κs. search needs) returns-2 line-at-requires (λ c κs. search needs) returns-3 returns-4)
+    (λ c κs. search needs) returns-2 (λ c. omega (arith, in-row (c .before .before)))
+    (λ c. omega (arith, in-row (c .before .before))) line-at-requires (λ c κs. search needs) returns-3 returns-4)

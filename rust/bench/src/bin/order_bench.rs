@@ -1,58 +1,148 @@
-//! `order_bench [MOST [FAMILY..]]`: measures the proved checker and the plain one on families of robust programs.
+//! `order_bench [--index SLOTS] [MOST [FAMILY..]]`: measures the proved checker and the plain one on families of robust
+//! programs, or the proved one beside an index of any length.
 #![forbid(unsafe_code)]
 
+use std::num::{IntErrorKind, ParseIntError};
 use std::process::ExitCode;
 
-use bench::families::{Family, ALL};
+use bench::families::{Family, Size, ALL};
+use bench::index::{self, beside, Beside};
 use bench::measure::{measure, stack, Measured};
 use bench::summary::summary;
-use bench::table::{line, HEADER};
+use bench::table::{line, FOOTER, HEADER};
+use bench::usage::usage;
 use command::{asked, print, tell};
-
-const USAGE: &str =
-    "usage: order_bench [MOST [FAMILY..]]   (programs of at most so many situations, and families whose
-names start so; all if not given)";
 
 const NAME: &str = "order_bench";
 
+const INDEX: &str = "--index";
+
 fn main() -> ExitCode {
-    match asked(NAME, USAGE) {
-        Ok(arguments) => run(arguments),
-        Err(status) => status,
+    let usage = usage();
+    let arguments = match asked(NAME, &usage) {
+        Ok(arguments) => arguments,
+        Err(status) => return status,
+    };
+    let (message, status) = match Asked::of(&arguments) {
+        Ok(asked) => match asked.show() {
+            Ok(()) => return ExitCode::SUCCESS,
+            Err(message) => (message, command::FAILED),
+        },
+        Err(message) => (format!("{message}\n{usage}"), command::USAGE),
+    };
+    tell(format!("{NAME}: {message}"));
+    ExitCode::from(status)
+}
+
+/// What the arguments ask for.
+struct Asked {
+    slots: Option<usize>,
+    most: usize,
+    families: Vec<&'static Family>,
+}
+
+impl Asked {
+    /// What is wrong with them, where they ask for something that is not known.
+    fn of(arguments: &[String]) -> Result<Asked, String> {
+        if arguments.iter().skip(1).any(|argument| argument == INDEX) {
+            return Err(format!("{INDEX} comes first, and once"));
+        }
+        let (slots, rest) = match arguments {
+            [option, rest @ ..] if option == INDEX => {
+                let what = "--index takes a number of slots";
+                let (slots, rest) = rest.split_first().ok_or(what)?;
+                (Some(number(slots, what)?), rest)
+            }
+            _ => (None, arguments),
+        };
+        let (most, names) = match rest {
+            [most, names @ ..] => (number(most, "MOST is a number of situations")?, names),
+            [] => (usize::MAX, rest),
+        };
+        Ok(Asked { slots, most, families: families(names)? })
+    }
+
+    /// Prints what they ask for, or says why that can't be done.
+    fn show(&self) -> Result<(), String> {
+        if self.families.iter().all(|family| self.sizes(family).next().is_none()) {
+            print(NAME, "no program has so few situations");
+            return Ok(());
+        }
+        match self.slots {
+            Some(slots) => {
+                let index = index::of_length(slots).ok_or("no memory for an index of so many slots")?;
+                self.show_index(index);
+            }
+            None => self.show_both(),
+        }
+        Ok(())
+    }
+
+    /// The two checkers.
+    fn show_both(&self) {
+        print(NAME, HEADER);
+        let measured = self.each(|family, size, smaller: Option<&Measured>| {
+            let measured = measure(family, size);
+            print(NAME, line(family.name, &measured, smaller));
+            measured
+        });
+        print(NAME, FOOTER);
+        summary(&measured).iter().for_each(|line| print(NAME, line));
+        let stack = self.families.iter().map(|family| stack(family)).max().unwrap_or_default();
+        print(NAME, format!("stack of the proved checker: at most {stack} bytes, with that of the call"));
+    }
+
+    /// The proved checker beside an index.
+    fn show_index(&self, mut index: Vec<u64>) {
+        let slots = index.len();
+        index::header(slots).iter().for_each(|line| print(NAME, line));
+        let measured = self.each(|family, size, _: Option<&Beside>| {
+            let measured = beside(family, size, &mut index);
+            print(NAME, index::line(family.name, slots, &measured));
+            measured
+        });
+        index::summary(&measured, slots).iter().for_each(|line| print(NAME, line));
+    }
+
+    /// What is measured of each program, which gets that of the next smaller one of its family.
+    fn each<M>(
+        &self,
+        mut measure: impl FnMut(&Family, &Size, Option<&M>) -> M,
+    ) -> Vec<(&'static str, Vec<M>)> {
+        let of_family = |family: &&'static Family| {
+            let mut all: Vec<M> = Vec::new();
+            for size in self.sizes(family) {
+                all.push(measure(family, size, all.last()));
+            }
+            (family.name, all)
+        };
+        self.families.iter().map(of_family).collect()
+    }
+
+    /// The programs of a family that are asked for.
+    fn sizes(&self, family: &Family) -> impl Iterator<Item = &'static Size> {
+        let most = self.most;
+        family.sizes.iter().filter(move |size| size.situations <= most)
     }
 }
 
-fn run(arguments: Vec<String>) -> ExitCode {
-    let mut arguments = arguments.into_iter();
-    let most = arguments.next().map_or(Ok(usize::MAX), |most| most.parse());
-    let names: Vec<String> = arguments.collect();
-    let chosen =
-        |family: &&Family| names.is_empty() || names.iter().any(|name| family.name.starts_with(name));
-    let families: Vec<&Family> = ALL.iter().filter(chosen).collect();
-    match most {
-        Ok(most) if !families.is_empty() => {
-            print(NAME, HEADER);
-            let shown = |family: &&Family| (family.name, show(family, most));
-            let measured: Vec<_> = families.iter().map(shown).collect();
-            summary(&measured).iter().for_each(|line| print(NAME, line));
-            let stack = families.iter().map(|family| stack(family)).max().unwrap_or_default();
-            print(NAME, format!("stack of the proved checker: at most {stack} bytes, with that of the call"));
-            ExitCode::SUCCESS
-        }
-        _ => {
-            tell(USAGE);
-            ExitCode::from(command::USAGE)
+/// The families whose names start with one of these, which all have to be known; all where there are none.
+fn families(names: &[String]) -> Result<Vec<&'static Family>, String> {
+    let starts = |family: &Family, name: &String| family.name.starts_with(name);
+    match names.iter().find(|name| !ALL.iter().any(|family| starts(family, name))) {
+        Some(unknown) => Err(format!("no family starts with '{}'", unknown.escape_debug())),
+        None => {
+            let is_chosen =
+                |family: &&Family| names.is_empty() || names.iter().any(|name| starts(family, name));
+            Ok(ALL.iter().filter(is_chosen).collect())
         }
     }
 }
 
-/// Measures a family and prints a line for each of its programs.
-fn show(family: &Family, most: usize) -> Vec<Measured> {
-    let mut all: Vec<Measured> = Vec::new();
-    for size in family.sizes.iter().filter(|size| size.situations <= most) {
-        let measured = measure(family, size);
-        print(NAME, line(family.name, &measured, all.last()));
-        all.push(measured);
-    }
-    all
+/// The number that an argument is. One that is too large is as good as the largest.
+fn number(argument: &str, what: &str) -> Result<usize, String> {
+    argument.parse().or_else(|error: ParseIntError| match error.kind() {
+        IntErrorKind::PosOverflow => Ok(usize::MAX),
+        _ => Err(format!("{what}, not '{}'", argument.escape_debug())),
+    })
 }

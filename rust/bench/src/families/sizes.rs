@@ -1,4 +1,4 @@
-//! The sizes of the families: about 100, 1,000, 10,000, 100,000 and 1,000,000 situations, where there are such.
+//! The sizes of the families: about 10, 30, 100, 1,000, 10,000, 100,000 and 1,000,000 situations, where there are such.
 
 use super::{counters, locks, messages, Family, Size};
 
@@ -32,6 +32,8 @@ const fn size(rounds: &'static [usize], situations: usize) -> Size {
 }
 
 const TICKET_2: &[Size] = &[
+    size(&[1, 0], 11),
+    size(&[3, 0], 31),
     size(&[1, 1], 113),
     size(&[3, 2], 967),
     size(&[6, 6], 10_683),
@@ -40,6 +42,8 @@ const TICKET_2: &[Size] = &[
 ];
 
 const TICKET_3: &[Size] = &[
+    size(&[1, 0, 0], 11),
+    size(&[3, 0, 0], 31),
     size(&[1, 1, 0], 113),
     size(&[1, 1, 1], 1_447),
     size(&[2, 2, 1], 10_191),
@@ -48,6 +52,8 @@ const TICKET_3: &[Size] = &[
 ];
 
 const TICKET_4: &[Size] = &[
+    size(&[1, 0, 0, 0], 11),
+    size(&[3, 0, 0, 0], 31),
     size(&[1, 1, 0, 0], 113),
     size(&[1, 1, 1, 0], 1_447),
     size(&[2, 2, 1, 0], 10_191),
@@ -56,6 +62,8 @@ const TICKET_4: &[Size] = &[
 ];
 
 const TICKET_5: &[Size] = &[
+    size(&[1, 0, 0, 0, 0], 11),
+    size(&[3, 0, 0, 0, 0], 31),
     size(&[1, 1, 0, 0, 0], 113),
     size(&[1, 1, 1, 0, 0], 1_447),
     size(&[2, 2, 1, 0, 0], 10_191),
@@ -64,6 +72,8 @@ const TICKET_5: &[Size] = &[
 ];
 
 const SPIN_2: &[Size] = &[
+    size(&[1, 0], 11),
+    size(&[3, 0], 31),
     size(&[1, 1], 156),
     size(&[2, 2], 880),
     size(&[5, 5], 11_260),
@@ -72,6 +82,8 @@ const SPIN_2: &[Size] = &[
 ];
 
 const SPIN_3: &[Size] = &[
+    size(&[1, 0, 0], 11),
+    size(&[3, 0, 0], 31),
     size(&[1, 1, 0], 156),
     size(&[2, 2, 0], 880),
     size(&[2, 1, 1], 8_804),
@@ -80,6 +92,8 @@ const SPIN_3: &[Size] = &[
 ];
 
 const SPIN_4: &[Size] = &[
+    size(&[1, 0, 0, 0], 11),
+    size(&[3, 0, 0, 0], 31),
     size(&[1, 1, 0, 0], 156),
     size(&[2, 2, 0, 0], 880),
     size(&[2, 1, 1, 0], 8_804),
@@ -88,6 +102,8 @@ const SPIN_4: &[Size] = &[
 ];
 
 const SPIN_5: &[Size] = &[
+    size(&[1, 0, 0, 0, 0], 11),
+    size(&[3, 0, 0, 0, 0], 31),
     size(&[1, 1, 0, 0, 0], 156),
     size(&[2, 2, 0, 0, 0], 880),
     size(&[2, 1, 1, 0, 0], 8_804),
@@ -96,6 +112,8 @@ const SPIN_5: &[Size] = &[
 ];
 
 const SEQLOCK_2: &[Size] = &[
+    size(&[1, 0], 10),
+    size(&[3, 0], 28),
     size(&[1, 1], 473),
     size(&[1, 2], 943),
     size(&[3, 3], 9_107),
@@ -104,6 +122,8 @@ const SEQLOCK_2: &[Size] = &[
 ];
 
 const SEQLOCK_3: &[Size] = &[
+    size(&[1, 0, 0], 10),
+    size(&[3, 0, 0], 28),
     size(&[1, 1, 0], 473),
     size(&[1, 2, 0], 943),
     size(&[3, 3, 0], 9_107),
@@ -112,6 +132,8 @@ const SEQLOCK_3: &[Size] = &[
 ];
 
 const FENCED_2: &[Size] = &[
+    size(&[1, 0], 8),
+    size(&[4, 0], 29),
     size(&[1, 1], 137),
     size(&[2, 2], 1_531),
     size(&[4, 3], 10_374),
@@ -120,6 +142,8 @@ const FENCED_2: &[Size] = &[
 ];
 
 const FENCED_3: &[Size] = &[
+    size(&[1, 0, 0], 8),
+    size(&[4, 0, 0], 29),
     size(&[1, 1, 0], 113),
     size(&[2, 2, 0], 1_121),
     size(&[2, 1, 1], 11_729),
@@ -128,6 +152,8 @@ const FENCED_3: &[Size] = &[
 ];
 
 const FENCED_4: &[Size] = &[
+    size(&[1, 0, 0, 0], 8),
+    size(&[4, 0, 0, 0], 29),
     size(&[1, 1, 0, 0], 113),
     size(&[2, 2, 0, 0], 1_121),
     size(&[2, 1, 1, 0], 7_973),
@@ -136,6 +162,8 @@ const FENCED_4: &[Size] = &[
 ];
 
 const NEWS_2: &[Size] = &[
+    size(&[2, 0], 13),
+    size(&[5, 0], 31),
     size(&[1, 1], 82),
     size(&[3, 2], 1_000),
     size(&[6, 5], 10_804),
@@ -144,6 +172,8 @@ const NEWS_2: &[Size] = &[
 ];
 
 const NEWS_3: &[Size] = &[
+    size(&[2, 0, 0], 13),
+    size(&[5, 0, 0], 31),
     size(&[1, 1, 0], 82),
     size(&[1, 1, 1], 1_072),
     size(&[2, 2, 1], 10_330),
@@ -152,6 +182,8 @@ const NEWS_3: &[Size] = &[
 ];
 
 const CHAIN_3: &[Size] = &[
+    size(&[1, 0, 0], 8),
+    size(&[1, 1, 0], 44),
     size(&[1, 1, 1], 140),
     size(&[3, 2, 2], 1_066),
     size(&[14, 14, 14], 10_131),
@@ -159,6 +191,9 @@ const CHAIN_3: &[Size] = &[
 ];
 
 const CHAIN_4: &[Size] = &[
+    size(&[1, 0, 0, 0], 8),
+    size(&[1, 1, 0, 0], 44),
+    size(&[1, 1, 1, 0], 188),
     size(&[1, 1, 1, 1], 572),
     size(&[2, 1, 1, 1], 1_548),
     size(&[3, 3, 3, 3], 11_251),
@@ -168,6 +203,10 @@ const CHAIN_4: &[Size] = &[
 
 /// No million: places have 479 bytes.
 const CHAIN_5: &[Size] = &[
+    size(&[1, 0, 0, 0, 0], 8),
+    size(&[1, 1, 0, 0, 0], 44),
+    size(&[1, 1, 1, 0, 0], 188),
+    size(&[1, 1, 1, 1, 0], 764),
     size(&[1, 1, 1, 1, 1], 2_300),
     size(&[2, 2, 1, 1, 1], 11_340),
     size(&[3, 3, 3, 3, 3], 79_255),
@@ -175,6 +214,8 @@ const CHAIN_5: &[Size] = &[
 ];
 
 const COUNTERS_2: &[Size] = &[
+    size(&[2, 0], 11),
+    size(&[6, 0], 31),
     size(&[1, 1], 93),
     size(&[3, 2], 948),
     size(&[6, 5], 9_141),
@@ -183,6 +224,8 @@ const COUNTERS_2: &[Size] = &[
 ];
 
 const COUNTERS_3: &[Size] = &[
+    size(&[2, 0, 0], 11),
+    size(&[6, 0, 0], 31),
     size(&[1, 1, 0], 93),
     size(&[3, 2, 0], 948),
     size(&[2, 1, 1], 8_403),
@@ -191,6 +234,8 @@ const COUNTERS_3: &[Size] = &[
 ];
 
 const COUNTERS_4: &[Size] = &[
+    size(&[2, 0, 0, 0], 11),
+    size(&[6, 0, 0, 0], 31),
     size(&[1, 1, 0, 0], 93),
     size(&[3, 2, 0, 0], 948),
     size(&[2, 1, 1, 0], 8_403),

@@ -6,7 +6,7 @@ use random::Numbers;
 use second::Report;
 
 use super::expected::{Expected, Lengths};
-use super::index::index_of;
+use super::index::index_after;
 use super::lent::Lent;
 use super::run::Run;
 
@@ -107,14 +107,16 @@ impl<'a> Compared<'a> {
             |table: &mut [u8], trace: &mut [u8]| numbers_indexed(self.bytes, table, trace, index.lend());
         let run = Run::filled(call, self.lengths, filling);
         run.difference_from(first, &self.report, self.expected)
-            .or_else(|| self.index_difference(&index, slots, prints))
+            .or_else(|| self.index_difference(&index, prints))
     }
 
-    /// Where the index is not what is due: as it was where the program is refused, else that of the places.
-    fn index_difference(&self, index: &Lent<u64>, slots: usize, prints: &[u32]) -> Option<String> {
+    /// Where the index is not what is due: as it was where the program is refused, else that of the places, with what
+    /// was lent behind the slots in use.
+    fn index_difference(&self, index: &Lent<u64>, prints: &[u32]) -> Option<String> {
+        let lent = index.before();
         let due = match self.expected.search() {
-            Some(_) => index_of(slots, prints),
-            None => Vec::new(),
+            Some(_) => index_after(lent, prints),
+            None => lent.to_vec(),
         };
         let found = index.front(due.len());
         let wrong = (0..due.len()).find(|&slot| found[slot] != due[slot]);

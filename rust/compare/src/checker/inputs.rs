@@ -56,13 +56,17 @@ pub fn trace_lengths(numbers: &mut Numbers, steps: usize) -> [usize; 8] {
     [whole, whole.saturating_sub(1), whole + 1, whole + 2, whole + 3, steps, some, 0]
 }
 
-/// How many lengths of an index there are, no more than lengths of a table.
-const INDEXES: usize = 5;
+/// How many lengths of an index there are, no more than twice the lengths of a table.
+const INDEXES: usize = 8;
 
-/// Lengths of an index for so many places: none, one that takes no place, one that takes three, one that takes some or
-/// all, and one that has room for more.
+/// Lengths of an index for so many places: none, one that takes no place, one that takes three, one that never grows,
+/// one that grows twice, one that takes some or all, one that has room for more, and one of which some slots are not
+/// even used. The last two make a long search fast.
 pub fn index_lengths(numbers: &mut Numbers, places: usize) -> [usize; INDEXES] {
-    [0, 1, 7, numbers.below(2 * places + 1), 2 * places + 1 + numbers.below(100)]
+    let some = numbers.below(2 * places + 1);
+    let all = 2 * places + 1 + numbers.below(100);
+    let more = 8 * places + 2_000 + numbers.below(100);
+    [0, 1, 7, 1_000, 5_000, some, all, more]
 }
 
 /// How often each answer was compared.
@@ -119,16 +123,17 @@ impl Tally {
     }
 }
 
-/// Compares the two checkers on program bytes with several lengths, or says how they differ. Each length of an index
-/// comes with another table and trace; what is refused at once is compared with all of them.
+/// Compares the two checkers on program bytes with several lengths, or says how they differ. Each table and trace comes
+/// with two lengths of an index, so that a program meets all; what is refused at once is compared with each of them.
 pub fn compare_program(bytes: &[u8], numbers: &mut Numbers, tally: &mut Tally) -> Result<(), String> {
     let expected = Expected::new(bytes, PLACES);
     let is_refused = expected.search().is_none();
-    let start = numbers.below(INDEXES);
+    let start = numbers.below(INDEXES / 2);
     tally.programs += 1;
     for (turn, lengths) in lengths(numbers, &expected).into_iter().enumerate() {
         let all = index_lengths(numbers, expected.places());
-        let indexes = if is_refused { &all[..] } else { &all[(start + turn) % INDEXES..][..1] };
+        let two = 2 * ((start + turn) % (INDEXES / 2));
+        let indexes = if is_refused { &all[..] } else { &all[two..][..2] };
         if let Some(difference) = difference(bytes, &expected, lengths, indexes, numbers) {
             let text = disassemble(bytes).unwrap_or_else(|number| format!("refused by check {number}"));
             return Err(format!("{difference}\nwith {lengths:?} for {bytes:?}\n{text}"));

@@ -27,6 +27,11 @@ impl<T: Copy + PartialEq> Lent<T> {
         &mut self.after[BESIDE..end]
     }
 
+    /// What was lent, as it was before the call.
+    pub fn before(&self) -> &[T] {
+        &self.before[BESIDE..self.before.len() - BESIDE]
+    }
+
     /// The first lent cells as they are now.
     pub fn front(&self, length: usize) -> &[T] {
         &self.after[BESIDE..][..length]

@@ -26,7 +26,7 @@ fn on_every_model() {
         let indexes = index_lengths(&mut numbers, search.places.len());
         if just > LONG {
             let lengths = Lengths { table: just, trace: traces[0] };
-            // Only the longest index makes it fast.
+            // The shorter ones would make it no faster than none does.
             let difference =
                 difference_in_one_call(&model.bytes, &expected, lengths, &indexes[4..], &mut numbers);
             assert_eq!(difference, None, "{} with {lengths:?}", model.name);

@@ -17,7 +17,7 @@ fn on_random_programs() {
     }
     let Tally { robust, not_robust, full, short_trace, indexed, .. } = tally;
     assert!([robust, not_robust, full, short_trace].iter().all(|&count| count >= 500), "{tally}");
-    assert!(indexed >= 20_000, "{tally}");
+    assert!(indexed >= 40_000, "{tally}");
 }
 
 #[test]
