@@ -73,7 +73,7 @@ extern "C" {
 #define ORDER_PLACE_SIZE(T, L) \
     (9 + (size_t)(T) * (6 + 4 * (size_t)(L)) + (size_t)(L) * (3 + 4 * (size_t)(L)))
 
-/* A call uses less stack than this, in bytes, whatever it is given. This is measured, not proved: it uses 7,000 or so. */
+/* A call uses less stack than this, in bytes, whatever it is given. This is measured, not proved: it uses 4,000 or so. */
 #define ORDER_CHECK_STACK 16384
 
 /* The numbers of an answer, by their index. Every call writes all of them; what a verdict does not use is 0. */

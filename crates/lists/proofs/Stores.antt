@@ -1,19 +1,12 @@
 -- Laws of stores and of parts of lists that the library lacks.
 use Prim.Native.Nat.{ℕ, zero, suc, _+_, _-_, _≤_}
-use native.Mathlib.Nat.{zero-add, add-zero, add-suc, suc-add}
+use native.Mathlib.Nat.{zero-add, suc-add}
 use native.Mathlib.Numerals.{towards-suc}
 use native.Mathlib.Omega.{arith}
 use mathlib.Core.Path.{_≡_, refl, ap, sym, _∙_}
 use mathlib.Core.List.{List, [], _∷_, _++_, map, append-assoc}
 use lib.ListN.{length, take, drop, set, replicate, length-drop}
 use lib.Seq.{sets, sets-eq, take-set-le, take-nil, take-at, drop-at, length-take-le}
-
--- One run behind another.
-pub sets-append : (l : List ℕ) (i : ℕ) (xs ys : List ℕ) → sets l i (xs ++ ys) ≡ sets (sets l i xs) (i + length xs) ys
-sets-append l i [] ys = ap (λ (n : ℕ). sets l n ys) (sym (add-zero i))
-sets-append l i (x ∷ xs) ys =
-    sets-append (set l i x) (suc i) xs ys
-    ∙ ap (λ (n : ℕ). sets (sets (set l i x) (suc i) xs) n ys) (suc-add i (length xs) ∙ sym (add-suc i (length xs)))
 
 -- Four stores, one behind the other.
 pub four-sets : (l : List ℕ) (at a b c d : ℕ)
@@ -44,11 +37,11 @@ stored at n l vs long fits =
     ∙ take-at vs (drop (at + length vs) l) n long
 
 -- One store in the second of two lists, and in a list that is mapped.
-pub set-in-second : (xs ys : List ℕ) (i v : ℕ) → set (xs ++ ys) (length xs + i) v ≡ xs ++ set ys i v
+pub set-in-second : {A : Type 0} (xs ys : List A) (i : ℕ) (v : A) → set (xs ++ ys) (length xs + i) v ≡ xs ++ set ys i v
 set-in-second [] ys i v = ap (λ (k : ℕ). set ys k v) (zero-add i)
 set-in-second (x ∷ xs) ys i v =
     ap (λ (k : ℕ). set (x ∷ xs ++ ys) k v) (suc-add (length xs) i)
-    ∙ ap (λ (l : List ℕ). x ∷ l) (set-in-second xs ys i v)
+    ∙ ap (λ l. x ∷ l) (set-in-second xs ys i v)
 
 pub map-of-set : {A B : Type 0} (f : A → B) (l : List A) (i : ℕ) (a : A) → map f (set l i a) ≡ set (map f l) i (f a)
 map-of-set f [] i a = refl
