@@ -4,7 +4,11 @@
  *
  * `rt staticlib order_check_c` proves it and makes target/staticlib/liborder_check_c.a, for x86-64 Linux:
  *
- *     cc caller.c target/staticlib/liborder_check_c.a
+ *     cc -Icrates/order_check_c caller.c target/staticlib/liborder_check_c.a
+ *
+ * Installed by ./install, with PREFIX/lib/pkgconfig in PKG_CONFIG_PATH where pkg-config does not look by itself:
+ *
+ *     cc caller.c $(pkg-config --cflags --libs order_check)
  *
  * docs/FORMAT.md has the bytes of a program, the checks by their numbers and the bytes of a trace; docs/LAYOUT.md has
  * the bytes of a place. A whole program that checks one and prints the answer:

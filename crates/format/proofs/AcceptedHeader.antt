@@ -6,14 +6,14 @@ use mathlib.Core.List.{List, [], map}
 use lib.ListN.{length, getD, replicate, length-replicate, length-map, List·getD-append, List·getD-map}
 use lib.Seq.{sets, sets-eq}
 use Rattle.limits.specs.Limits.{maxThreads}
-use Rattle.program.specs.Program.{Line, Program, linesOf}
+use Rattle.program.specs.Program.{Program, linesOf}
 use Rattle.program.specs.Outcome.{Outcome}
 use Rattle.program.specs.Outcome.Outcome.{refused, accepted}
 use Rattle.program.specs.Within.{Within}
 use Rattle.program.specs.Format.{sizePR, sizeIN, readProgram, programIn, programOf}
 use Rattle.program.specs.Layout.{startsFrom, startOf}
 use Rattle.format.specs.Answer.{Accepted, LineAt, reading, headerOf}
-use Rattle.format.specs.declared.Check.the-variants.{Passed, Failed}
+use Rattle.format.specs.declared.Check.the-variants.{Passed}
 use Rattle.format.specs.declared.Header.{Header}
 use Rattle.format.specs.declared.Reading.{Reading}
 use Rattle.program.proofs.RoundTrip.{accepted-is-spelling}
@@ -24,11 +24,8 @@ use Rattle.format.proofs.AcceptedLines.{line-fits}
 front-of-row : (width : ℕ) (l : List ℕ) (t : ℕ) → t < length l → length l ≤ width → getD (sets
     (replicate width 0) 0 l) t 0 ≡ getD l t 0
 front-of-row width l t h fits =
-    ap (λ (r : List ℕ). getD r t 0) (sets-eq l (replicate width 0) 0 (omega (
-      arith,
-      length-replicate {A = ℕ} width 0,
-    )))
-    ∙ List·getD-append l _ 0 t h
+    let room = length-replicate {A = ℕ} width 0 in
+    rw (sets-eq l (replicate width 0) 0 (omega arith), List·getD-append l _ 0 t h)
 
 outcome-passed : (o : Outcome Program) → reading o .check ≡ Passed
     → (o ≡ accepted (programIn o)) × (reading o .header ≡ headerOf (programIn o))
@@ -67,13 +64,9 @@ module _ (bytes : List ℕ) (h : Header) (is : Accepted bytes h) where
   lines-counted t less =
       let threads = programOf bytes .threads in
       let long = length-map threads length in
-      ap (λ (x : Header). getD (x .counts) t 0) (is .header)
-      ∙ front-of-row maxThreads (map length threads) t (omega (arith, long)) (omega (
-        arith,
-        long,
-        accepted-within .few-threads,
-      ))
-      ∙ List·getD-map length threads t []
+      let few = accepted-within .few-threads in
+      rw (is .header, front-of-row maxThreads (map length threads) t (omega arith) (omega arith))
+      (List·getD-map length threads t [])
 
   -- Where the lines of each thread start.
   pub starts-at : (t : ℕ) → t < length (programOf bytes .threads)
@@ -82,12 +75,8 @@ module _ (bytes : List ℕ) (h : Header) (is : Accepted bytes h) where
   starts-at t less =
       let threads = programOf bytes .threads in
       let long = length-startsFrom sizePR threads in
-      ap (λ (x : Header). getD (x .starts) t 0) (is .header)
-      ∙ front-of-row maxThreads (startsFrom sizePR threads) t (omega (arith, long)) (omega (
-        arith,
-        long,
-        accepted-within .few-threads,
-      ))
+      let few = accepted-within .few-threads in
+      rw (is .header) (front-of-row maxThreads (startsFrom sizePR threads) t (omega arith) (omega arith))
 
   -- Line i of thread t, where the header counts both, as line_at is to find it.
   module _ {t i : ℕ} (in-threads : t < h .threads) (in-counts : i < getD (h .counts) t 0) where

@@ -2,13 +2,14 @@
 use Prim.Native.Nat.{ℕ, zero, suc, _+_, _-_, _*_, _≤_, _<_}
 use native.Mathlib.Omega.{arith}
 use native.Mathlib.Numerals.{add-one}
-use mathlib.Core.Path.{_≡_, refl, ap, sym, subst, _∙_}
+use mathlib.Core.Path.{_≡_, refl, ap, sym, _∙_}
 use mathlib.Core.Bool.{Bool, true, false}
-use mathlib.Core.List.{List, [], _∷_, map}
+use mathlib.Core.List.{List, _∷_, map}
 use lib.ListN.{length, drop, set, length-drop}
 use lib.Seq.{sets, drop-drop}
 use lib.Dec.{eqb}
 use borrow.Author.Tests.{eq-eqb, ne-eqb}
+use Rattle.limits.specs.Limits.{maxLines}
 use Rattle.program.specs.Program.{Line, Program}
 use Rattle.program.specs.Outcome.{Outcome, check, andThen}
 use Rattle.program.specs.Outcome.Outcome.{refused, accepted}
@@ -20,7 +21,6 @@ use Rattle.format.specs.declared.Check.the-variants.{Passed}
 use Rattle.format.specs.declared.Header.{Header}
 use Rattle.format.specs.declared.Reading.{Reading}
 use Rattle.format.specs.declared.threads.Thread.the-variants.{Lines, Faulty}
-use Rattle.program.proofs.OutcomeLaws.{andThen-goes-on, andThen-stops}
 use Rattle.program.proofs.AcceptedThreads.{thread-read, threads-read}
 
 -- A header with thread i's lines filled in.
@@ -99,28 +99,20 @@ module _ (L K : ℕ) (bytes : List ℕ) where
   -- A thread that is read leaves one fewer.
   thread-passes : (left : ℕ) → 0 < left → {n : ℕ} (h : Header) (i next : ℕ) → threadOf
       (readThread L K bytes) ≡ Lines n
-      → (sizeTH + n * sizeIN ≤ length bytes)
+      → (n ≤ maxLines) × (sizeTH + n * sizeIN ≤ length bytes)
       × (filled h i next (restOf L K left bytes)
       ≡ filled (withThread h i (next + sizeTH) n) (i + 1) (next + (sizeTH + n * sizeIN))
       (restOf L K (left - 1) (drop (sizeTH + n * sizeIN) bytes)))
-  unfolding readThreads
+  unfolding readThreads andThen
   thread-passes zero some h i next e = absurd (omega arith)
   thread-passes (suc left) some {n} h i next e =
       let (got, read, counted) = thread-accepted (readThread L K bytes) e in
       let now = thread-read L K bytes read in
       let one : left ≡ suc left - 1 = omega arith in
       let o = readThreads L K left (got .1) in (
-        subst (λ (m : ℕ). sizeTH + m * sizeIN ≤ length bytes) counted (now .whole),
-        ap (λ (r : Outcome (List (List Line) × List ℕ)). filled h i next (andThen r (endsAfter L K)))
-            (andThen-goes-on (readThread L K bytes) _ read)
-            ∙ filled-cons L K h i next (got .0) o
-            ∙ ap (λ (b : List ℕ). filled (withThread h i (next + sizeTH) (length (got .0))) (i + 1)
-            (next + threadSize (got .0))
-            (restOf L K left b)) (now .after)
-            ∙ ap (λ (m : ℕ). filled (withThread h i (next + sizeTH) m) (i + 1) (next + (sizeTH + m * sizeIN))
-            (restOf L K left (drop (sizeTH + m * sizeIN) bytes))) counted
-            ∙ ap (λ (c : ℕ). filled (withThread h i (next + sizeTH) n) (i + 1) (next + (sizeTH + n * sizeIN))
-            (restOf L K c (drop (sizeTH + n * sizeIN) bytes))) one,
+        omega (arith, now .within .few),
+        rw counted at (now .whole),
+        rw read (filled-cons L K h i next (got .0) o ∙ rw (now .after, counted, ← one)),
       )
 
 -- Behind the last thread the input ends, or check 9 fails.
@@ -157,6 +149,8 @@ filled-is-reading T L K bytes = go (readThreads L K T bytes) refl
 pub record Ahead (L K T : ℕ) (bytes : List ℕ) (h : Header) (i next : ℕ) : Type 0 where
   pub inside : next ≤ length bytes
   pub not-past : i ≤ T
+  -- Each thread so far had few lines.
+  pub early : next ≤ sizePR + i * (sizeTH + maxLines * sizeIN)
   pub comes-to : filled h i next (restOf L K (T - i) (drop next bytes)) ≡ reading (restOf L K T (drop sizePR bytes))
 
 -- Where the loop begins.
@@ -167,6 +161,7 @@ begins T L K bytes fits e =
     record {
       inside = fits;
       not-past = omega arith;
+      early = omega arith;
       comes-to = rw (e, none) (filled-is-reading T L K (drop sizePR bytes));
     }
 
@@ -182,10 +177,11 @@ module _ {L K T : ℕ} {bytes : List ℕ} {h : Header} {i next : ℕ} (ahead : A
       let here : next + sizeTH + n * sizeIN ≡ next + (sizeTH + n * sizeIN) = omega arith in
       let one : T - (i + 1) ≡ T - i - 1 = omega arith in
       record {
-        inside = omega (arith, p .0, length-drop next bytes);
+        inside = omega (arith, p .1, length-drop next bytes);
         not-past = omega arith;
+        early = omega (arith, p .0, ahead .early);
         comes-to =
-            rw (here, one, ← drop-drop (sizeTH + n * sizeIN) next bytes) (sym (p .1) ∙ ahead .comes-to);
+            rw (here, one, ← drop-drop (sizeTH + n * sizeIN) next bytes) (sym (p .2) ∙ ahead .comes-to);
       }
 
   all-read : T ≤ i → filled h i next (restOf L K 0 (drop next bytes)) ≡ reading (restOf L K T (drop sizePR bytes))

@@ -1,5 +1,5 @@
 -- The turns of the reader's loops: what one line, or one thread, does to the answer.
-use Prim.Native.Nat.{ℕ, zero, suc, _+_, _-_, _*_, _≤_, _<_}
+use Prim.Native.Nat.{ℕ, zero, suc, _+_, _-_, _≤_, _<_}
 use native.Mathlib.Omega.{arith}
 use mathlib.Core.Path.{_≡_, refl, ap, sym, _∙_}
 use mathlib.Core.Bool.{true}
@@ -8,18 +8,15 @@ use lib.ListN.{length, getD, drop, length-drop}
 use borrow.Author.Tests.{le-leb}
 use Rattle.limits.specs.Limits.{maxLines}
 use lib.Seq.{drop-drop, getD-drop}
-use Rattle.program.specs.Program.{Line}
 use Rattle.program.specs.Outcome.{Outcome, check, andThen}
 use Rattle.program.specs.Outcome.Outcome.{refused, accepted}
 use Rattle.program.specs.Format.{isRecord, markIN, markTH, sizeIN, sizeTH, fieldsToLine}
 use Rattle.program.specs.Format.{readLine, readLines, readThread}
 use Rattle.records.specs.Fields.{fieldsOf}
 use Rattle.format.specs.Inner.{checkOf, threadOf}
-use Rattle.format.specs.declared.Check.{Check}
 use Rattle.format.specs.declared.Check.the-variants.{Passed, Failed}
 use Rattle.format.specs.declared.threads.Thread.the-variants.{Lines, Faulty}
 use Rattle.program.proofs.AcceptedThreads.{lines-read}
-use Rattle.program.proofs.OutcomeLaws.{andThen-goes-on, andThen-stops}
 use Rattle.program.proofs.RecordLaws.{record-stands}
 use Rattle.program.proofs.AcceptedLine.{line-read}
 
@@ -52,26 +49,22 @@ module _ (L K n : ℕ) (bytes : List ℕ) where
   -- A line that fails ends the lines.
   lines-fail : (left : ℕ) → 0 < left → {k : ℕ} → checkOf (readLine L K n bytes) ≡ Failed k
       → checkOf (readLines L K n left bytes) ≡ Failed k
-  unfolding readLines checkOf
+  unfolding readLines andThen checkOf
   lines-fail zero some e = absurd (omega arith)
-  lines-fail (suc left) some e = ap checkOf (andThen-stops (readLine L K n bytes) _ (is-refused
-      (readLine L K n bytes) e))
+  lines-fail (suc left) some e = rw (is-refused (readLine L K n bytes) e)
 
   -- A line that passes leaves one fewer, behind it.
   lines-pass : (left : ℕ) → 0 < left → checkOf (readLine L K n bytes) ≡ Passed
       → (sizeIN ≤ length bytes)
       × (checkOf (readLines L K n left bytes) ≡ checkOf (readLines L K n (left - 1) (drop sizeIN bytes)))
-  unfolding readLines
+  unfolding readLines andThen
   lines-pass zero some e = absurd (omega arith)
   lines-pass (suc left) some e =
       let (first, read) = is-accepted (readLine L K n bytes) e in
       let now = line-read L K n bytes read in
       let one : left ≡ suc left - 1 = omega arith in (
         now .whole,
-        ap checkOf (andThen-goes-on (readLine L K n bytes) _ read)
-            ∙ check-goes-on (readLines L K n left (first .1)) _
-            ∙ ap (λ (b : List ℕ). checkOf (readLines L K n left b)) (now .after)
-            ∙ ap (λ (c : ℕ). checkOf (readLines L K n c (drop sizeIN bytes))) one,
+        rw read (check-goes-on (readLines L K n left (first .1)) _ ∙ rw (now .after, ← one)),
       )
 
 -- The invariant of the loop over a thread's lines: from byte next on, what is left comes to the check of all from
@@ -96,9 +89,7 @@ module _ {L K n : ℕ} {bytes : List ℕ} {at next left : ℕ} (ahead : LinesAhe
 
   pub lines-end : left ≤ 0 → Passed ≡ checkOf (readLines L K n n (drop at bytes))
   unfolding readLines checkOf
-  lines-end e =
-      let none : 0 ≡ left = omega arith in
-      ap (λ (m : ℕ). checkOf (readLines L K n m (drop next bytes))) none ∙ ahead .comes-to
+  lines-end e = let none : left ≡ 0 = omega arith in rw none at (ahead .comes-to)
 
 -- A line's record that stands there is checked by its fields.
 pub line-checked : (L K n : ℕ) (bytes : List ℕ) → isRecord markIN sizeIN bytes ≡ true

@@ -27,13 +27,14 @@ pub enum Check {
     Failed(u8),
 }
 
-// An accepted input: T, L, K, and for each thread the byte at which its lines start and how many there are, 0 past the last thread.
+// An accepted input: T, L, K, and for each thread the byte at which its lines start and how many there are, 0 past the
+// last thread. Its arrays are of short numbers, as the search copies them often.
 pub struct Header {
     pub threads: usize,
     pub locations: usize,
     pub values: usize,
-    pub starts: [usize; limits::THREADS],
-    pub counts: [usize; limits::THREADS],
+    pub starts: [u16; limits::THREADS],
+    pub counts: [u16; limits::THREADS],
 }
 
 // The answer of the reader: the header counts where the check passed, and is all 0 where it failed.

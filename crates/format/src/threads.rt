@@ -61,8 +61,8 @@ pub fn read_threads(bytes: &[u8], t: u8, l: u8, k: u8) -> Reading
             }
             Thread::Lines(n) => {
                 let lines = n as usize;
-                header.starts[i] = next + TH_SIZE;
-                header.counts[i] = lines;
+                header.starts[i] = (next + TH_SIZE) as u16;
+                header.counts[i] = n as u16;
                 next = next + TH_SIZE + lines * IN_SIZE;
                 i = i + 1;
             }

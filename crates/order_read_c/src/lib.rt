@@ -48,6 +48,19 @@ fn failed(check: Check) -> usize
     }
 }
 
+// Short numbers as long ones.
+fn widened(short: [u16; limits::THREADS]) -> [usize; limits::THREADS]
+    ensures { λ r. ⌜ r ≡ short ⌝ }
+{
+    let mut long = [0usize; limits::THREADS];
+    let mut i = 0;
+    while i < limits::THREADS {
+        long[i] = short[i] as usize;
+        i += 1;
+    }
+    long
+}
+
 // Reads any input.
 #[no_mangle]
 pub extern "C" fn order_read(program: &[u8]) -> HeaderAnswer
@@ -56,8 +69,10 @@ pub extern "C" fn order_read(program: &[u8]) -> HeaderAnswer
     let reading = format::read(program);
     let check = reading.check;
     let header = reading.header;
-    let starts = header.starts;
-    let counts = header.counts;
+    let short_starts = header.starts;
+    let short_counts = header.counts;
+    let starts = widened(short_starts);
+    let counts = widened(short_counts);
     HeaderAnswer {
         number: failed(check),
         threads: header.threads,
@@ -143,11 +158,11 @@ pub extern "C" fn order_line(program: &[u8], thread: usize, line: usize) -> Line
             if header.threads <= thread {
                 return no_line();
             }
-            if counts[thread] <= line {
+            if counts[thread] as usize <= line {
                 return no_line();
             }
             let starts = header.starts;
-            fields_of(format::line_at(program, starts[thread], header.values, line))
+            fields_of(format::line_at(program, starts[thread] as usize, header.values, line))
         }
     }
 }

@@ -1,16 +1,15 @@
 -- How long a printed text can be, for a buffer that is never too short.
-use Prim.Native.Nat.{ℕ, zero, suc, _+_, _*_, _/_, _^_, _≤_, _<_}
+use Prim.Native.Nat.{ℕ, zero, suc, _*_, _/_, _^_, _≤_, _<_}
 use native.Mathlib.Omega.{arith}
-use mathlib.Core.Path.{_≡_, ap, _∙_}
+use mathlib.Core.Path.{_≡_}
 use mathlib.Core.List.{List, [], _∷_, _++_}
 use lib.ListN.{length, getD, length-append}
 use Rattle.rules.specs.declared.Ending.{Ending}
 use Rattle.program.specs.ThreadNumber.{threadNumber}
-use Rattle.program.specs.Steps.{stepSize, kindNumber}
-use Rattle.report.specs.Text.{space, newline, decimal, line, letterOf, stepLine, stepLines, endingLine}
-use Rattle.report.specs.Text.{markNR, markST, longestLine, longestStep, longestText}
+use Rattle.program.specs.Steps.{stepSize}
+use Rattle.report.specs.Text.{decimal, line, stepLine, stepLines, endingLine}
+use Rattle.report.specs.Text.{longestLine, longestStep, longestText}
 use Rattle.report.proofs.Decimals.{decimal-length}
-use Rattle.report.proofs.LineLaws.{line-of-two, line-of-last-three, line-of-first-two, line-of-first-four}
 
 word-length : (n : ℕ) → n < 2 ^ 64 → length (decimal n) ≤ 20
 word-length n h = decimal-length 19 n (omega arith)
@@ -19,48 +18,11 @@ word-length n h = decimal-length 19 n (omega arith)
 byte-length : (n : ℕ) → n ≤ 2 ^ 8 → length (decimal n) ≤ 3
 byte-length n h = decimal-length 2 n (omega arith)
 
-length-of-two : (mark d : List ℕ) → length (line (mark ∷ d ∷ [])) ≡ length mark + length d + 2
-length-of-two mark d =
-    ap length (line-of-two mark d)
-    ∙ omega (arith, length-append (mark ++ (space ∷ d)) (newline ∷ []), length-append mark (space ∷ d))
-
-length-of-last-three : (a : ℕ) (b d : List ℕ) → length (line ((a ∷ []) ∷ b ∷ d ∷ [])) ≡ length b + length d + 4
-length-of-last-three a b d =
-    omega (
-      arith,
-      ap length (line-of-last-three a b d),
-      length-append ((space ∷ a ∷ []) ++ (space ∷ b) ++ (space ∷ d)) (newline ∷ []),
-      length-append ((space ∷ a ∷ []) ++ (space ∷ b)) (space ∷ d),
-      length-append (space ∷ a ∷ []) (space ∷ b),
-    )
-
-length-of-first-four : (a b d e f : List ℕ) (others : List (List ℕ))
-    → length (line (a ∷ b ∷ d ∷ e ∷ f ∷ others))
-    ≡ length a + length b + length d + length e + length (line (f ∷ others)) + 4
-length-of-first-four a b d e f others =
-    ap length (line-of-first-four a b d e f others)
-    ∙ omega (
-      arith,
-      length-append (a ++ (space ∷ b) ++ (space ∷ d) ++ (space ∷ e)) (space ∷ line (f ∷ others)),
-      length-append (a ++ (space ∷ b) ++ (space ∷ d)) (space ∷ e),
-      length-append (a ++ (space ∷ b)) (space ∷ d),
-      length-append a (space ∷ b),
-    )
-
 step-is-short : (t k l v : ℕ) → t < 2 ^ 8 → l < 2 ^ 8 → v < 2 ^ 8 → length (stepLine t k l v) ≤ longestStep
-unfolding stepLine
+unfolding stepLine line
 step-is-short t k l v small-thread small-location small-value =
-    let access = line ((letterOf k ∷ []) ∷ decimal l ∷ decimal v ∷ []) in
-    omega (
-      arith,
-      ap length (line-of-first-two markST (decimal t) (letterOf k ∷ []) (decimal l ∷ decimal v ∷ [])),
-      length-append (markST ++ (space ∷ decimal t)) (space ∷ access),
-      length-append markST (space ∷ decimal t),
-      length-of-last-three (letterOf k) (decimal l) (decimal v),
-      byte-length t (omega arith),
-      byte-length l (omega arith),
-      byte-length v (omega arith),
-    )
+    simp length-append
+    (omega (arith, byte-length t (omega arith), byte-length l (omega arith), byte-length v (omega arith)))
 
 steps-are-short : (steps : ℕ) (trace : List ℕ) → ((j : ℕ) → getD trace j 0 < 2 ^ 8)
     → length (stepLines steps trace) ≤ longestStep * (length trace / stepSize)
@@ -81,23 +43,21 @@ steps-are-short (suc steps) (t ∷ k ∷ l ∷ v ∷ trace) small =
 -- A text of one line, a mark and a number.
 pub number-is-short : (mark : List ℕ) → length mark ≡ 2 → (n : ℕ) → n < 2 ^ 64 → (traceLength : ℕ)
     → length (line (mark ∷ decimal n ∷ [])) ≤ longestText traceLength
-number-is-short mark two n h traceLength = omega (arith, length-of-two mark (decimal n), word-length n h)
+unfolding line
+number-is-short mark two n h traceLength = simp length-append (omega (arith, word-length n h))
 
 pub ending-is-short : (count steps : ℕ) (e : Ending) → count < 2 ^ 64 → steps < 2 ^ 64 → e .thread < 2 ^ 8
     → e .location < 2 ^ 64 → e .value < 2 ^ 8 → length (endingLine count steps e) ≤ longestLine
-unfolding endingLine
+unfolding endingLine line
 ending-is-short count steps e small-count small-steps small-thread small-location small-value =
-    omega (
+    simp length-append (omega (
       arith,
-      length-of-first-four markNR (decimal count) (decimal steps) (decimal (threadNumber (e .thread)))
-          (letterOf (kindNumber (e .kind)) ∷ []) (decimal (e .location) ∷ decimal (e .value) ∷ []),
-      length-of-last-three (letterOf (kindNumber (e .kind))) (decimal (e .location)) (decimal (e .value)),
       word-length count small-count,
       word-length steps small-steps,
       byte-length (threadNumber (e .thread)) (omega arith),
       word-length (e .location) small-location,
       byte-length (e .value) (omega arith),
-    )
+    ))
 
 -- A text with steps: its first line is short, and so is each step's.
 pub steps-text-is-short : (first : List ℕ) → length first ≤ longestLine → (steps : ℕ) (trace : List ℕ)

@@ -3,8 +3,8 @@ use Prim.Native.Nat.{ℕ, zero, suc, _/_, _%_, _^_, _≤_, _<_}
 use native.Mathlib.Decide.{decLt}
 use native.Mathlib.Nat.{pow-suc, div-lt-iff-lt-mul}
 use native.Mathlib.Omega.{arith}
-use mathlib.Core.Path.{_≡_, ap, sym, _∙_}
-use mathlib.Core.List.{List, [], _∷_, _++_}
+use mathlib.Core.Path.{_≡_, sym, _∙_}
+use mathlib.Core.List.{[], _∷_, _++_}
 use lib.ListN.{length, length-append}
 use borrow.Author.Tests.{lt-ltb, le-ltb}
 use Rattle.report.specs.Text.{digit, decimalIn, decimal}
@@ -29,9 +29,7 @@ same-digits (suc most) (suc more) n h k =
         → decimalIn (suc most) n ≡ decimalIn (suc more) n
     go front (yes small) = one-digit most n small ∙ sym (one-digit more n small)
     go front (no large) =
-        more-digits most n (omega arith)
-        ∙ ap (λ (l : List ℕ). l ++ digit (n % 10) ∷ []) (front (omega arith) (omega arith))
-        ∙ sym (more-digits more n (omega arith))
+        rw (more-digits most n (omega arith), more-digits more n (omega arith), front (omega arith) (omega arith))
 
 pub decimal-of-digit : (n : ℕ) → n < 10 → decimal n ≡ digit n ∷ []
 unfolding decimal
@@ -41,9 +39,7 @@ decimal-of-digit n h = one-digit n n h
 pub decimal-of-more : (n : ℕ) → 10 ≤ n → decimal n ≡ decimal (n / 10) ++ digit (n % 10) ∷ []
 unfolding decimal
 decimal-of-more n h =
-    more-digits n n h
-    ∙ ap (λ (front : List ℕ). front ++ digit (n % 10) ∷ [])
-    (same-digits n (suc (n / 10)) (n / 10) (omega arith) (omega arith))
+    rw (more-digits n n h, same-digits n (suc (n / 10)) (n / 10) (omega arith) (omega arith))
 
 -- A number below a power of ten has no more digits.
 pub decimal-length : (k n : ℕ) → n < 10 ^ suc k → length (decimal n) ≤ suc k

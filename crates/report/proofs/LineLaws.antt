@@ -3,7 +3,7 @@ use Prim.Native.Nat.{ℕ, zero, suc, _+_, _*_, _/_, _≤_, _<_}
 use native.Mathlib.Nat.{suc-mul}
 use native.Mathlib.Numerals.{add-one, towards-suc}
 use native.Mathlib.Omega.{arith}
-use mathlib.Core.Path.{_≡_, refl, ap, ap₂, sym, _∙_}
+use mathlib.Core.Path.{_≡_, refl, ap, sym, _∙_}
 use mathlib.Core.List.{List, [], _∷_, _++_, append-assoc, append-nil}
 use lib.ListN.{length, getD}
 use Rattle.report.specs.Put.{Put}
@@ -45,20 +45,7 @@ pub ending-put : {d e f : List ℕ} {next last kind : ℕ} (count steps : ℕ) (
     → Put d 0 (endingLine count steps w) f last
 unfolding endingLine
 ending-put count steps w numbered run access =
-    put-as
-    (ap₂ (λ (n k : ℕ).
-    line
-    (markNR
-    ∷ decimal count
-    ∷ decimal steps
-    ∷ decimal n
-    ∷ (letterOf k ∷ [])
-    ∷ decimal (w .location)
-    ∷ decimal (w .value)
-    ∷ []))
-    (sym (add-one (w .thread))) (sym numbered)
-    ∙ line-of-first-four _ _ _ _ _ _)
-    (put-then run access)
+    rw (← add-one (w .thread), ← numbered) (put-as (line-of-first-four _ _ _ _ _ _) (put-then run access))
 
 -- The line of a step: the mark and the thread, then the access.
 pub step-line-put : {d e f : List ℕ} {at next last : ℕ} (thread kind location value : ℕ)
@@ -84,9 +71,7 @@ one-more-step i (t ∷ k ∷ []) h = absurd (omega arith)
 one-more-step i (t ∷ k ∷ l ∷ []) h = absurd (omega arith)
 one-more-step zero (t ∷ k ∷ l ∷ v ∷ trace) h = append-nil (stepLine t k l v)
 one-more-step (suc i) (t ∷ k ∷ l ∷ v ∷ trace) h =
-    ap (λ (lines : List ℕ). stepLine t k l v ++ lines) (one-more-step i trace (omega arith))
-    ∙ sym (append-assoc (stepLine t k l v) (stepLines i trace) (lineAt trace (i * stepSize)))
-    ∙ ap (λ (last : List ℕ). stepLine t k l v ++ stepLines i trace ++ last) (simp (suc-mul, towards-suc))
+    rw (one-more-step i trace (omega arith)) (simp (append-assoc, suc-mul, towards-suc))
 
 -- No lines stand past the last whole step of the trace.
 no-more-steps : (i steps : ℕ) (trace : List ℕ) → length trace / stepSize ≤ i → i ≤ steps
@@ -94,20 +79,17 @@ no-more-steps : (i steps : ℕ) (trace : List ℕ) → length trace / stepSize �
 unfolding stepLines
 no-more-steps zero zero trace h k = refl
 no-more-steps (suc i) zero trace h k = absurd (omega arith)
-no-more-steps zero (suc steps) trace h k = few trace h
-  where
-    few : (trace : List ℕ) → length trace / stepSize ≤ 0 → stepLines (suc steps) trace ≡ []
-    few [] h = refl
-    few (t ∷ []) h = refl
-    few (t ∷ a ∷ []) h = refl
-    few (t ∷ a ∷ l ∷ []) h = refl
-    few (t ∷ a ∷ l ∷ v ∷ trace) h = absurd (omega arith)
+no-more-steps zero (suc steps) [] h k = refl
+no-more-steps zero (suc steps) (t ∷ []) h k = refl
+no-more-steps zero (suc steps) (t ∷ a ∷ []) h k = refl
+no-more-steps zero (suc steps) (t ∷ a ∷ l ∷ []) h k = refl
+no-more-steps zero (suc steps) (t ∷ a ∷ l ∷ v ∷ trace) h k = absurd (omega arith)
 no-more-steps (suc i) (suc steps) [] h k = refl
 no-more-steps (suc i) (suc steps) (t ∷ []) h k = refl
 no-more-steps (suc i) (suc steps) (t ∷ a ∷ []) h k = refl
 no-more-steps (suc i) (suc steps) (t ∷ a ∷ l ∷ []) h k = refl
 no-more-steps (suc i) (suc steps) (t ∷ a ∷ l ∷ v ∷ trace) h k =
-    ap (λ (lines : List ℕ). stepLine t a l v ++ lines) (no-more-steps i steps trace (omega arith) (omega arith))
+    rw (no-more-steps i steps trace (omega arith) (omega arith))
 
 module _ {d : List ℕ} {at : ℕ} (trace : List ℕ) where
   pub no-steps-put : Put d at (stepLines 0 trace) d at

@@ -29,13 +29,11 @@ sets-then l i (x ∷ xs) ys = go (sets-then (set l i x) (suc i) xs ys) (decLt i 
     go rest (yes h) =
         let e : suc i + min (length xs) (length (set l i x) - suc i) ≡ i + min (suc (length xs)) (length l - i)
         = omega (arith, length-set l i x) in
-        rest ∙ ap (λ (n : ℕ). sets (sets (set l i x) (suc i) xs) n ys) e
+        rw e at rest
     go rest (no n) =
         let past : length l ≤ i = omega arith in
         sets-past l i (x ∷ xs ++ ys) past
-        ∙ sym
-        (ap (λ (r : List ℕ). sets r (i + min (suc (length xs)) (length l - i)) ys) (sets-past l i (x ∷ xs) past)
-        ∙ sets-past l (i + min (suc (length xs)) (length l - i)) ys (omega arith))
+        ∙ sym (rw (sets-past l i (x ∷ xs) past) (sets-past l _ ys (omega arith)))
 
 pub put-nothing : (d : List ℕ) (at : ℕ) → Put d at [] d at
 put-nothing d at = record { written = refl; behind = omega arith }
@@ -81,12 +79,9 @@ laid-behind front [] buffer =
 laid-behind front (b ∷ text) [] =
     sets-past (front ++ []) (length front) (b ∷ text) (omega (arith, length-append front []))
 laid-behind front (b ∷ text) (old ∷ buffer) =
-    ap (λ (l : List ℕ). sets l (suc (length front)) text)
-    (set-append-seam front old buffer b ∙ sym (append-snoc front b buffer))
-    ∙ ap (λ (n : ℕ). sets ((front ++ b ∷ []) ++ buffer) n text)
-    (let e : suc (length front) ≡ length (front ++ b ∷ []) = omega (arith, length-append front (b ∷ [])) in e)
-    ∙ laid-behind (front ++ b ∷ []) text buffer
-    ∙ append-snoc front b (laid text buffer)
+    let e : suc (length front) ≡ length (front ++ b ∷ []) = omega (arith, length-append front (b ∷ [])) in
+    rw (set-append-seam front old buffer b, ← append-snoc front b buffer, e)
+    (laid-behind (front ++ b ∷ []) text buffer ∙ append-snoc front b (laid text buffer))
 
 -- What is printed from the start of the buffer.
 pub put-from-start : {d e text : List ℕ} {next : ℕ} → Put d 0 text e next

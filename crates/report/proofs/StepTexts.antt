@@ -41,9 +41,8 @@ pub lines-of-steps : (steps : List StepRecord) (others : List ℕ)
 unfolding stepLines flatMap
 lines-of-steps [] others = refl
 lines-of-steps (s ∷ steps) others =
-    ap (stepLines (suc (length steps))) (append-assoc (stepBytes s) (bytesOfSteps steps) others)
-    ∙ first-line (length steps) (s .thread) (s .label) (bytesOfSteps steps ++ others)
-    ∙ ap (λ (lines : List ℕ). lineOf s ++ lines) (lines-of-steps steps others)
+    rw (append-assoc (stepBytes s) (bytesOfSteps steps) others)
+    (first-line (length steps) (s .thread) (s .label) _ ∙ rw (lines-of-steps steps others))
 
 -- So for NR the ST lines tell the steps of the very run that the promise gives.
 pub text-of-run : {p : Program} {trace : List ℕ} (count : ℕ) {steps : ℕ} {e : Ending} (s : Shown p trace steps e)

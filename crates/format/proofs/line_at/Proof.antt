@@ -5,11 +5,8 @@ use borrow.Author.Needs.{needs}
 use Rattle.format.proofs.line_at.Statement.{statement}
 use Rattle.format.proofs.line_at.Tie as tie
 
-returns : tie.Need-returns
-returns c t l other =
-    c .decode .ensures ∙ line-made l (c .before .fields-at .result) (c .before .fields-at .ensures) other
-
 pub line-at-spec : {M : Type 1} → statement M
 line-at-spec =
     tie.close
-    (tie.spec (λ c. search needs) (λ c. search needs) (λ c κs. search needs) (λ c κs. search needs) returns)
+    (tie.spec (λ c. search needs) (λ c. search needs) (λ c κs. search needs) (λ c κs. search needs)
+    (λ c t l other. c .decode .ensures ∙ line-made l _ (c .before .fields-at .ensures) other))

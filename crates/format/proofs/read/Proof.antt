@@ -21,23 +21,10 @@ stands : (c : tie.Else1)
 stands c = sym (c .before .is-record .ensures) ∙ not-false _ (c .if1 .left)
 
 fits : (c : tie.Else1) → sizePR ≤ length (now (c .before .before .before .before .args .bytes))
-fits c =
-    omega (arith, record-fits markPR (now (c .before .before .before .before .args .bytes)) 0 sizePR zero≤ (stands c))
+fits c = record-fits markPR _ 0 sizePR zero≤ (stands c)
 
 abbrev at-record : tie.After-are-in-range → tie.Else1
 at-record c = c .before .before .before .before
-
-returns : tie.Need-returns
-unfolding readProgram check reading
-returns c =
-    c .refused .ensures ∙ rw (sym (c .before .before .is-record .ensures) ∙ not-true _ (c .before .if1 .taken))
-
-returns-2 : tie.Need-returns-2
-unfolding readProgram check reading
-returns-2 c =
-    let tested = c .before .before in
-    c .refused2 .ensures
-    ∙ rw (stands (at-record tested), sym (tested .are-in-range .ensures) ∙ not-true _ (c .before .if2 .taken))
 
 read-threads-requires : tie.Need-read-threads-requires
 read-threads-requires c κs = (
@@ -45,17 +32,15 @@ read-threads-requires c κs = (
   in-range _ _ _ (sym (c .before .are-in-range .ensures) ∙ not-false _ (c .if2 .left)) .few-threads,
 )
 
-returns-3 : tie.Need-returns-3
-unfolding readProgram check reading
-returns-3 c =
-    let tested = c .before .before in
-    c .read-threads .ensures
-    ∙ rw (stands (at-record tested), sym (tested .are-in-range .ensures) ∙ not-false _ (c .before .if2 .left))
-
 pub read-spec : {M : Type 1} → statement M
+unfolding readProgram check reading
 read-spec =
     tie.close
-    (tie.spec (λ c. search needs) (λ c κs. search needs) (λ c κs. search needs) returns
+    (tie.spec (λ c. search needs) (λ c κs. search needs) (λ c κs. search needs)
+    (λ c. rw (sym (c .before .before .is-record .ensures) ∙ not-true _ (c .before .if1 .taken)) (c .refused .ensures))
     (λ c. omega (arith, fits (c .before))) (λ c. omega (arith, fits (c .before .before)))
-    (λ c. omega (arith, fits (c .before .before .before))) (λ c κs. search needs) (λ c κs. search needs) returns-2
-    read-threads-requires returns-3)
+    (λ c. omega (arith, fits (c .before .before .before))) (λ c κs. search needs) (λ c κs. search needs)
+    (λ c. rw (stands, sym (c .before .before .are-in-range .ensures) ∙ not-true _ (c .before .if2 .taken))
+    (c .refused2 .ensures)) read-threads-requires
+    (λ c. rw (stands, sym (c .before .before .are-in-range .ensures) ∙ not-false _ (c .before .if2 .left))
+    (c .read-threads .ensures)))

@@ -84,5 +84,5 @@ order-line-spec =
     tie.close
     (tie.spec (λ c κs. search needs) (λ c. search needs) (λ c κs. search needs) (λ c. search needs)
     (λ c κs. search needs) returns (λ c. omega (arith, in-row c)) (λ c. omega (arith, in-row c))
-    (λ c κs. search needs) returns-2 (λ c. omega (arith, in-row (c .before .before)))
-    (λ c. omega (arith, in-row (c .before .before))) line-at-requires (λ c κs. search needs) returns-3 returns-4)
+    (λ c. search needs) (λ c κs. search needs) returns-2 (λ c. omega (arith, in-row (c .before .before)))
+    (λ c. omega (arith, in-row (c .before .before))) (λ c. search needs) line-at-requires (λ c κs. search needs) returns-3 returns-4)

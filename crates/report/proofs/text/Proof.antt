@@ -1,8 +1,7 @@
 -- `report::text` meets its contract: each way prints the lines of its report from the start of the buffer.
 use Rattle.verdicts.specs.Number.{checkNumber}
-use mathlib.Core.Path.{refl}
 use Prim.Native.Nat.{ℕ}
-use lib.ListN.{length}
+use mathlib.Core.Path.{refl}
 use Rattle.report.specs.Text.{textOf, endingLine, markRB, markFU, markNO}
 use Rattle.report.proofs.Bound.{number-is-short, steps-text-is-short}
 use Rattle.report.proofs.Puts.{put-then}
@@ -11,15 +10,6 @@ use denote.Ref.{now}
 use borrow.Author.Needs.{needs}
 use Rattle.report.proofs.text.Statement.{statement}
 use Rattle.report.proofs.text.Tie as tie
-
-returns : tie.Need-returns
-unfolding textOf checkNumber
-returns c =
-    let put = c .before .before in
-    let told = put .before .before .before .before in
-    let a = told .before .before .before .before .args in
-    printed (a .report) _ (now (a .trace)) (told .report .given .1)
-    (number-is-short markRB refl _ (search needs) (length (now (a .trace)))) (put .put-line .ensures)
 
 returns-2 : tie.Need-returns-2
 unfolding textOf checkNumber
@@ -35,38 +25,26 @@ returns-2 c =
     (named .1 .0) (now (a .trace)) (λ (j : ℕ). bytes j .fits))
     (put-then (first .put-ending .ensures .0) (second .put-steps .ensures))
 
-returns-3 : tie.Need-returns-3
-unfolding textOf checkNumber
-returns-3 c =
-    let put = c .before .before in
-    let told = put .before .before .before .before in
-    let a = told .before .before .before .before .args in
-    printed (a .report) _ (now (a .trace)) (told .report3 .given .1)
-    (number-is-short markFU refl _ (search needs) (length (now (a .trace)))) (put .put-line2 .ensures)
-
-returns-4 : tie.Need-returns-4
-unfolding textOf checkNumber
-returns-4 c =
-    let put = c .before .before in
-    let told = put .before .before .before in
-    let a = told .before .before .before .before .args in
-    printed (a .report) _ (now (a .trace)) (told .enum-told .given .1)
-    (number-is-short markNO refl _ (search needs) (length (now (a .trace)))) (put .put-line3 .ensures)
-
-returns-5 : tie.Need-returns-5
-unfolding textOf checkNumber
-returns-5 c =
-    let put = c .before .before in
-    let told = put .before .before .before .before in
-    let a = told .before .before .before .before .args in
-    printed (a .report) _ (now (a .trace)) (told .report4 .given .1)
-    (number-is-short markNO refl _ (search needs) (length (now (a .trace)))) (put .put-line4 .ensures)
-
 pub text-spec : {M : Type 1} → statement M
+unfolding textOf checkNumber
 text-spec =
     tie.close
     (tie.spec (λ c. search needs) (λ c. search needs) (λ c κs. search needs) (λ c. search needs)
     (λ c κs. search needs) (λ c κs. search needs) (λ c. search needs) (λ c. search needs) (λ c κs. search needs)
     (λ c. search needs) (λ c. search needs) (λ c κs. search needs) (λ c. search needs) (λ c. search needs)
-    (λ c. search needs) (λ c κs. search needs) (λ c. search needs) returns (λ c. search needs) returns-2
-    (λ c. search needs) returns-3 (λ c. search needs) returns-4 (λ c. search needs) returns-5)
+    (λ c. search needs) (λ c κs. search needs) (λ c. search needs)
+    (λ c. let put = c .before .before in
+    printed _ _ _ (put .before .before .before .before .report .given .1)
+    (number-is-short markRB refl _ (search needs) _) (put .put-line .ensures))
+    (λ c. search needs) returns-2 (λ c. search needs)
+    (λ c. let put = c .before .before in
+    printed _ _ _ (put .before .before .before .before .report3 .given .1)
+    (number-is-short markFU refl _ (search needs) _) (put .put-line2 .ensures))
+    (λ c. search needs)
+    (λ c. let put = c .before .before in
+    printed _ _ _ (put .before .before .before .enum-told .given .1)
+    (number-is-short markNO refl _ (search needs) _) (put .put-line3 .ensures))
+    (λ c. search needs)
+    (λ c. let put = c .before .before in
+    printed _ _ _ (put .before .before .before .before .report4 .given .1)
+    (number-is-short markNO refl _ (search needs) _) (put .put-line4 .ensures)))

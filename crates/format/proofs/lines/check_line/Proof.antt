@@ -1,14 +1,13 @@
 -- `format::lines::check_line` meets its contract. Check 3, and then what `check_fields` ensures of the fields.
 use Rattle.format.proofs.Turns.{record-fits, line-checked}
-use Rattle.records.specs.declared.Fields.{Fields}
 use Rattle.format.specs.Inner.{checkOf}
-use Rattle.program.specs.Format.{isRecord, readLine, markIN, sizeIN, fieldsToLine}
+use Rattle.program.specs.Format.{isRecord, readLine, markIN, sizeIN}
 use Rattle.program.specs.Outcome.{check}
 use borrow.Author.Tests.{not-true, not-false}
 use lib.ListN.{drop}
 use denote.Ref.{now}
 use mathlib.Core.Bool.{true}
-use mathlib.Core.Path.{_≡_, sym, _∙_, ap}
+use mathlib.Core.Path.{_≡_, sym, _∙_}
 use borrow.Author.Needs.{needs}
 use Rattle.format.proofs.lines.check_line.Statement.{statement}
 use Rattle.format.proofs.lines.check_line.Tie as tie
@@ -19,19 +18,9 @@ stands : (c : tie.Else1)
     isRecord markIN sizeIN (drop (a .at) (now (a .bytes))) ≡ true
 stands c = sym (c .before .is-record .ensures) ∙ not-false _ (c .if1 .left)
 
-fields-at-requires : tie.Need-fields-at-requires
-fields-at-requires c κs =
-    let s = c .before .before .before .before in
-    record-fits markIN (now (s .args .bytes)) (s .args .at) sizeIN (s .pre) (stands c)
-
 returns-2 : tie.Need-returns-2
 returns-2 c =
-    let there = c .before .before in
-    let a = there .before .before .before .before .args in
-    c .check-fields .ensures
-    ∙ ap (λ (f : Fields). checkOf (fieldsToLine (a .l) (a .k) (a .n) (f .op) (f .reg) (f .target) (f .a) (f .b)))
-    (c .before .fields-at .ensures)
-    ∙ sym (line-checked (a .l) (a .k) (a .n) (drop (a .at) (now (a .bytes))) (stands there))
+    rw (line-checked _ _ _ _ (stands (c .before .before)), ← c .before .fields-at .ensures) (c .check-fields .ensures)
 
 pub check-line-spec : {M : Type 1} → statement M
 unfolding readLine check checkOf
@@ -39,4 +28,5 @@ check-line-spec =
     tie.close
     (tie.spec (λ c. search needs) (λ c κs. search needs)
     (λ c. rw (sym (c .before .is-record .ensures) ∙ not-true _ (c .if1 .taken)))
-    fields-at-requires (λ c κs. search needs) returns-2)
+    (λ c κs. record-fits markIN _ _ sizeIN (c .before .before .before .before .pre) (stands c)) (λ c κs. search needs)
+    returns-2)

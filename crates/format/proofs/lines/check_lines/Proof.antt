@@ -25,15 +25,11 @@ passes c =
     turn-passes (checked .before .before .loop .inv) (checked .before .loop-test .taken)
     (sym (checked .check-line .ensures) ∙ c .enum-told .given .1)
 
-returns : tie.Need-returns Inv-loop μ-loop
-returns c =
-    let checked = c .before .before .before in
-    turn-fails (checked .before .before .loop .inv) (checked .before .loop-test .taken)
-    (sym (checked .check-line .ensures) ∙ c .before .line .given .1)
-
 pub check-lines-spec : {M : Type 1} → statement M
 check-lines-spec =
     tie.close
     (tie.spec Inv-loop μ-loop (λ c. record { inside = search needs; comes-to = refl }) (λ c κs. search needs)
-    (λ c. search needs) returns (λ c. search needs) (λ c. omega (arith, passes c .inside)) (λ c. search needs)
+    (λ c. search needs)
+    (λ c. search (turn-fails, sym (c .before .before .before .check-line .ensures) ∙ c .before .line .given .1, needs))
+    (λ c. search needs) (λ c. omega (arith, passes c .inside)) (λ c. search needs)
     (λ c. search needs) passes (λ c. lines-end (c .before .loop .inv) (c .loop-test .left)))

@@ -28,41 +28,29 @@ fits c =
     let start = at-start (c .before) in
     record-fits markTH (now (start .args .bytes)) (start .args .at) sizeTH (start .pre) (stands c)
 
-returns : tie.Need-returns
-unfolding readThread check threadOf
-returns c = rw (sym (c .before .is-record .ensures) ∙ not-true _ (c .if1 .taken))
-
-cast-if2 : tie.Need-cast-if2
-cast-if2 c = omega (arith, c .shared-slice-known2 .given (at-start (c .before .before) .args .at + 2))
-
-returns-2 : tie.Need-returns-2
-unfolding readThread check threadOf
-returns-2 c =
-    let there = c .before .before in
-    let a = at-start (there .before) .args in
-    rw (stands there, getD-drop (a .at) (now (a .bytes)) 2 0, lt-leb _ _ (c .if2 .taken))
-
 returns-3 : tie.Need-returns-3
 returns-3 c =
     let checked = c .before .before in
-    let few = checked .before in
-    let there = few .before .before in
+    let there = checked .before .before .before in
     let a = at-start (there .before) .args in
-    sym (thread-passed (a .l) (a .k) (now (a .bytes)) (a .at) (stands there) (few .if2 .left) _ refl
+    sym (thread-passed _ _ (now (a .bytes)) (a .at) (stands there) (checked .before .if2 .left) _ refl
     (sym (checked .check-lines .ensures) ∙ c .enum-told .given .1))
 
 returns-4 : tie.Need-returns-4
 returns-4 c =
     let checked = c .before .before .before in
-    let few = checked .before in
-    let there = few .before .before in
+    let there = checked .before .before .before in
     let a = at-start (there .before) .args in
-    sym (thread-failed (a .l) (a .k) (now (a .bytes)) (a .at) (stands there) (few .if2 .left) _ refl
+    sym (thread-failed _ _ (now (a .bytes)) (a .at) (stands there) (checked .before .if2 .left) _ refl
     (sym (checked .check-lines .ensures) ∙ c .before .lines .given .1))
 
 pub read-thread-spec : {M : Type 1} → statement M
+unfolding readThread check threadOf
 read-thread-spec =
     tie.close
-    (tie.spec (λ c. search needs) (λ c κs. search needs) returns (λ c. omega (arith, fits c))
-    (λ c. omega (arith, fits (c .before))) cast-if2 returns-2 (λ c. omega (arith, fits (c .before .before)))
+    (tie.spec (λ c. search needs) (λ c κs. search needs)
+    (λ c. rw (sym (c .before .is-record .ensures) ∙ not-true _ (c .if1 .taken))) (λ c. omega (arith, fits c))
+    (λ c. omega (arith, fits (c .before)))
+    (λ c. omega (arith, c .shared-slice-known2 .given (at-start (c .before .before) .args .at + 2)))
+    (λ c. rw (stands, getD-drop, lt-leb _ _ (c .if2 .taken))) (λ c. omega (arith, fits (c .before .before)))
     (λ c κs. omega (arith, fits (c .before .before))) (λ c. search needs) (λ c. search needs) returns-3 returns-4)

@@ -29,12 +29,6 @@ passes c =
     turn-passes (read .before .before .loop .inv) (read .before .loop-test .taken)
     (sym (read .read-thread .ensures) ∙ c .before .thread2 .given .1)
 
-loop-holds : tie.Need-loop-holds Inv-loop μ-loop
-loop-holds c =
-    let start = c .before .before in
-    let a = start .args in
-    begins (a .t) (a .l) (a .k) (now (a .bytes)) (start .pre .0) (c .no-header .ensures)
-
 returns : tie.Need-returns Inv-loop μ-loop
 returns c =
     let read = c .before .before .before .before in
@@ -42,19 +36,13 @@ returns c =
     ∙ turn-fails (read .before .before .loop .inv) (read .before .loop-test .taken)
     (sym (read .read-thread .ensures) ∙ c .before .before .thread .given .1)
 
-returns-2 : tie.Need-returns-2 Inv-loop μ-loop
-returns-2 c =
-    let ended = c .before .before in
-    c .refused2 .ensures ∙ input-goes-on (ended .before .loop .inv) (ended .loop-test .left) (c .before .if1 .taken)
-
-returns-3 : tie.Need-returns-3 Inv-loop μ-loop
-returns-3 c = input-ends (c .before .before .loop .inv) (c .before .loop-test .left) (c .if1 .left)
-
 pub read-threads-spec : {M : Type 1} → statement M
 read-threads-spec =
     tie.close
-    (tie.spec Inv-loop μ-loop (λ c κs. search needs) loop-holds (λ c κs. search needs) (λ c. search needs)
+    (tie.spec Inv-loop μ-loop (λ c κs. search needs)
+    (λ c. begins _ _ _ _ (c .before .before .pre .0) (c .no-header .ensures)) (λ c κs. search needs) (λ c. search needs)
     (λ c κs. search needs) returns (λ c. search needs) (λ c. search needs) (λ c. omega (arith, passes c .inside))
-    (λ c. omega arith) (λ c. omega arith) (λ c. search needs) (λ c. search needs)
-    (λ c. omega (arith, passes c .inside)) (λ c. search needs) (λ c. omega (arith, passes c .inside))
-    (λ c. search needs) (λ c. search needs) passes (λ c κs. search needs) returns-2 returns-3)
+    (λ c. omega arith) (λ c. omega arith) (λ c. omega arith) (λ c. search needs) (λ c. omega arith)
+    (λ c. omega arith) (λ c. omega (arith, passes c .inside)) (λ c. search needs)
+    (λ c. omega (arith, passes c .inside)) (λ c. search needs) (λ c. search needs) passes (λ c κs. search needs)
+    (λ c. search (_∙_, input-goes-on, needs)) (λ c. search (input-ends, needs)))

@@ -2,12 +2,11 @@
 use Rattle.report.specs.Put.{Put}
 use Rattle.report.specs.Text.{stepLines}
 use Rattle.report.proofs.LineLaws.{no-steps-put, step-put, steps-put}
-use Rattle.report.proofs.Puts.{put-as, put-same-length}
+use Rattle.report.proofs.Puts.{put-same-length}
 use borrow.Author.Tests.{ltb-true, ltb-false}
 use native.Mathlib.Omega.{arith}
-use mathlib.Core.Path.{_≡_, ap}
-use denote.Ref.{now}
-use Prim.Native.Nat.{ℕ, _-_, _≤_}
+use mathlib.Core.Path.{_≡_}
+use Prim.Native.Nat.{_-_, _≤_}
 use borrow.Author.Needs.{needs}
 use Rattle.report.proofs.lines.put_steps.Statement.{statement}
 use Rattle.report.proofs.lines.put_steps.Tie as tie
@@ -23,22 +22,14 @@ loop-again : tie.Need-loop-again Inv-loop μ-loop
 loop-again c =
     let put = c .before .before .put-step .ensures in
     let turn = c .before .before .before .before .before .before .before .before in
-    let l = turn .before .before .loop in
-    let a = turn .before .before .before .before .before .args in
-    (search needs, step-put (now (a .trace)) (l .inv .1) (ltb-true _ _ (turn .if1 .taken)) put)
-
-returns : tie.Need-returns Inv-loop μ-loop
-returns c =
-    let l = c .before .before .loop in
-    let a = c .before .before .before .before .before .args in
-    steps-put (now (a .trace)) (l .inv .1) (ltb-false _ _ (c .if1 .left)) (search needs)
+    (search needs, step-put _ (turn .before .before .loop .inv .1) (ltb-true _ _ (turn .if1 .taken)) put)
 
 returns-2 : tie.Need-returns-2 Inv-loop μ-loop
 returns-2 c =
     let l = c .before .loop in
     let a = c .before .before .before .before .args in
     let e : a .steps ≡ l .i = omega arith in
-    put-as (ap (λ (n : ℕ). stepLines n (now (a .trace))) e) (l .inv .1)
+    rw e (l .inv .1)
 
 pub put-steps-spec : {M : Type 1} → statement M
 put-steps-spec =
@@ -47,5 +38,5 @@ put-steps-spec =
     (λ c. omega (arith, ltb-true)) (λ c. omega (arith, ltb-true)) (λ c. omega (arith, ltb-true))
     (λ c. omega (arith, ltb-true)) (λ c. omega (arith, ltb-true)) (λ c. omega (arith, ltb-true))
     (λ c. omega (arith, ltb-true)) (λ c κs. search needs) (λ c. search needs) (λ c. search needs) loop-again
-    (λ c. put-same-length (c .before .before .loop .inv .1)) returns
+    (λ c. put-same-length (c .before .before .loop .inv .1)) (λ c. search (steps-put, ltb-false, needs))
     (λ c. put-same-length (c .before .loop .inv .1)) returns-2)

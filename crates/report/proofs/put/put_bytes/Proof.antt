@@ -14,16 +14,10 @@ Inv-loop out₀ at bytes next₀ i₀ out next i =
 abbrev μ-loop : tie.MeasureT-loop
 μ-loop out₀ at bytes next₀ i₀ out next i = length bytes - i
 
-loop-again : tie.Need-loop-again Inv-loop μ-loop
-loop-again c =
-    let put = c .before .before .put-byte .ensures in
-    let turn = c .before .before .before .before .before in
-    let l = turn .before .loop in
-    (search needs, put-one-more _ (l .i) (l .inv .1) (turn .loop-test .taken) put)
-
 pub put-bytes-spec : {M : Type 1} → statement M
 put-bytes-spec =
     tie.close
     (tie.spec Inv-loop μ-loop (λ c. (search needs, put-nothing _ _)) (λ c. search needs) (λ c κs. search needs)
-    (λ c. search needs) (λ c. search needs) loop-again (λ c. put-same-length (c .before .loop .inv .1))
+    (λ c. search needs) (λ c. search needs) (λ c. search (put-one-more, needs))
+    (λ c. put-same-length (c .before .loop .inv .1))
     (λ c. put-all _ (c .before .loop .inv .1) (c .loop-test .left)))
