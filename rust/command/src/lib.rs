@@ -1,6 +1,7 @@
 //! What the commands share: arguments, output and how they end.
 #![forbid(unsafe_code)]
 
+use std::ffi::OsString;
 use std::fmt::Display;
 use std::fs::{metadata, File, Metadata};
 use std::io::{self, ErrorKind, Read, Write};
@@ -18,10 +19,14 @@ pub const USAGE: u8 = 2;
 
 /// The arguments after the command's name, or what is wrong with the first that is no text.
 pub fn arguments() -> Result<Vec<String>, String> {
-    let text = |argument: std::ffi::OsString| {
-        argument.into_string().map_err(|it| format!("{} is not valid UTF-8", it.to_string_lossy()))
-    };
-    std::env::args_os().skip(1).map(text).collect()
+    std::env::args_os().skip(1).map(|argument| argument.into_string().map_err(no_text)).collect()
+}
+
+/// What is wrong with an argument that is no text. The name is meant, and not what the file holds.
+fn no_text(argument: OsString) -> String {
+    let shown = name_of(&argument.to_string_lossy());
+    let what = if shown.starts_with('-') { "argument" } else { "file name" };
+    format!("the {what} '{shown}' is not valid UTF-8")
 }
 
 /// The arguments of a command that knows `--help`, `-h` and `--version` beside them; the status to end with where one of
@@ -88,6 +93,17 @@ pub fn is_same_file(one: &str, other: &str) -> bool {
     let kept = |file: &str| metadata(file).ok().filter(Metadata::is_file);
     let [one, other] = [one, other].map(|file| kept(file).map(|found| (found.dev(), found.ino())));
     one.is_some() && one == other
+}
+
+/// Whether a file is there that is not empty and not of the kind that is to be written, by its first bytes: it would be
+/// lost.
+pub fn holds_other(file: &str, is_kind: impl Fn(&[u8]) -> bool) -> bool {
+    const START: u64 = 1_000;
+    let mut start = Vec::new();
+    // A pipe is not opened: that would wait for its writer.
+    let is_file = metadata(file).is_ok_and(|found| found.is_file());
+    let mut read = || File::open(file)?.take(START).read_to_end(&mut start);
+    is_file && matches!(read(), Ok(1..)) && !is_kind(&start)
 }
 
 /// Why standard output was not written.

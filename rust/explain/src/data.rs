@@ -30,8 +30,8 @@ impl Explanation {
     /// - `cycle`: the edges from the stale access back to it. Each has `from` and `to`, ids, and `relation`: `"po"` is
     ///   program order, `"rf"` reads from, `"mo"` modification order, `"fr"` from-read.
     /// - `help`: `fences` and `updates`, the trials of changes on the cycle; `enough`, the trial of a small set of
-    ///   fences that makes the model robust, or else of the last set that was tried; `fence_location`, the name of the
-    ///   location of the model that fences use, `null` for a new one; `checks`, how often the checker was asked.
+    ///   fences that makes the model robust, or else of the last set that was considered; `fence_location`, the name
+    ///   of the location of the model that fences use, `null` for a new one; `checks`, how often the checker was asked.
     ///
     /// A trial has `changes`, which are made together, and `verdict`: `"robust"`, `"not_robust"`, `"undecided"` (the
     /// table of the quick check was full), or, where the checker was not asked, `"no_room"` (the limits of a model),

@@ -16,7 +16,7 @@ pub struct Help {
     pub fences: Vec<Trial>,
     /// Each read-modify-write in place of an access of the cycle alone, and all that the language has together.
     pub updates: Vec<Trial>,
-    /// A small set of fences that makes the model robust; where none was found, the last one that was tried.
+    /// A small set of fences that makes the model robust; where none was found, the last one that was considered.
     pub enough: Trial,
     /// How many changed models the checker was asked about.
     pub checks: usize,

@@ -99,8 +99,9 @@ fn verdict(line: &str) -> Option<Verdict> {
 /// Of the comments that look like such a line, with their numbers, the first that is none, or the second that is one.
 fn found_instead(near: &[(usize, &str)]) -> String {
     let wrong = near.iter().find(|(_, line)| verdict(line).is_none());
-    match wrong.or(near.get(1)) {
-        Some((number, line)) => format!(", found '{}' on line {}", shortened(line), number + 1),
-        None => String::new(),
+    match (wrong, near.get(1)) {
+        (Some((number, line)), _) => format!(", found '{}' on line {}", shortened(line), number + 1),
+        (None, Some((number, _))) => format!(", found a second one on line {}", number + 1),
+        (None, None) => String::new(),
     }
 }

@@ -38,7 +38,9 @@ pub fn add(mistake: Mistake, cursor: &Cursor, scope: &Scope) -> Mistake {
     // No known word could stand where the line ends, or where a new name is due.
     let no_word = is_due(&["the end", "a name"]);
     let no_line = no_word || is_due(&["'values'", "'locations'"]);
-    let hint = header(line, &rest)
+    let hint = early(&rest)
+        .filter(|_| is_due(&["'values'"]))
+        .or_else(|| header(line, &rest))
         .or_else(|| no_thread(&rest, scope).filter(|_| is_due(&["'thread'"])))
         .or_else(|| accesses::change(line, &rest, scope))
         .or_else(|| signs::hint(line, &rest, scope))
@@ -48,6 +50,11 @@ pub fn add(mistake: Mistake, cursor: &Cursor, scope: &Scope) -> Mistake {
         .or_else(|| word(line, &rest, scope).filter(|_| !no_word))
         .filter(|hint| hint.len() <= LONGEST_HINT);
     Mistake { hint, ..mistake }
+}
+
+/// Definitions in front of all else.
+fn early(rest: &[Piece]) -> Option<String> {
+    matches!(rest, [Word("constants" | "registers"), ..]).then(|| "definitions stand after 'values'".into())
 }
 
 /// Lines of the header, and `thread`.
@@ -63,7 +70,7 @@ fn header(before: &[Piece], rest: &[Piece]) -> Option<String> {
             "'thread' stands alone on its line; 'thread * 3' is three equal threads"
         }
         ([], [Word("constants" | "registers"), Word(_), ..]) => {
-            "definitions stand in the header, or before the first line of a thread"
+            "definitions stand in the header, or directly after 'thread'"
         }
         _ => return None,
     };

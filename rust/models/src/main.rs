@@ -4,8 +4,9 @@
 use std::fs;
 use std::process::ExitCode;
 
-use command::{asked, is_same_file, name_of, read, tell, write_out, Unwritten, FAILED, USAGE};
+use command::{asked, holds_other, is_same_file, name_of, read, tell, write_out, Unwritten, FAILED, USAGE};
 use models::{assemble, disassemble};
+use program::what_check_asks;
 
 const HELP: &str = "\
 order_asm: the text form of a program to its bytes
@@ -16,7 +17,7 @@ order_asm: the text form of a program to its bytes
     order_asm --version                the version
 
 Without FILE, or with -, it reads standard input. Without -o it writes standard output.
-OUT must not be FILE.
+OUT must not be FILE, and bytes replace no text that is there.
 Where the input has a mistake, a message goes to standard error, nothing else is written,
 and the exit status is 1. It is 2 where the command line has one. An input of more than
 1 MiB is refused.
@@ -45,7 +46,7 @@ The lines, for registers r0 to r3 and locations x: each 1 and 2 may be a value o
     wait(x = 1)                   BCAS(x, 1 -> 2)
 
 'thread * 3' is three equal threads. Names for values and registers stand before or after
-the locations, or before the first line of a thread and then hold there:
+the locations, or directly after 'thread' and then hold there:
 
     constants empty = 0 full = 1
     registers mine = r0 other = r1
@@ -105,8 +106,16 @@ fn task(arguments: Vec<String>) -> Result<Task, String> {
         Some(file) if input != STANDARD_INPUT && is_same_file(&input, file) => {
             Err(format!("expected another file than the input after -o, found {}", name_of(file)))
         }
+        Some(file) if !disassemble && holds_other(file, is_program) => {
+            Err(format!("{} holds no program bytes, and would be written over", name_of(file)))
+        }
         _ => Ok(Task { disassemble, input, output }),
     }
+}
+
+/// Whether a file that starts so may be a program: after its mark comes the number of its threads, which no text has.
+fn is_program(start: &[u8]) -> bool {
+    start.strip_prefix(b"PR").and_then(|rest| rest.first()).is_some_and(u8::is_ascii_control)
 }
 
 /// The output for all of the input: it is written only after this, so that a mistake leaves none.
@@ -114,11 +123,16 @@ fn translated(task: &Task) -> Result<Vec<u8>, String> {
     let name = name_of(&task.input);
     let input = read(&task.input)?;
     if task.disassemble {
-        let refused = |number| format!("{name}: not a program: check {number} of document 01 fails");
-        Ok(disassemble(&input).map_err(refused)?.into_bytes())
+        Ok(disassemble(&input).map_err(|number| refused(&name, number))?.into_bytes())
     } else {
         assemble(&input).map_err(|mistake| format!("{name}:{mistake}"))
     }
+}
+
+/// What is said of bytes that fail a check.
+fn refused(name: &str, number: u8) -> String {
+    let asked = what_check_asks(number);
+    format!("{name}: no program: check {number} failed, {asked}; docs/FORMAT.md has the bytes of a program")
 }
 
 /// Writes the file, or standard output where none is named.

@@ -146,7 +146,7 @@ fn an_expectation_in_another_spelling_is_named() {
     {
         assert_eq!(message(text), plain, "{text}");
     }
-    assert_eq!(message("# expect RB\n\n# expect NR"), format!("{plain}, found '# expect NR' on line 3"));
+    assert_eq!(message("# expect RB\n\n# expect NR"), format!("{plain}, found a second one on line 3"));
     assert_eq!(message("# expect RB\n# expected"), format!("{plain}, found '# expected' on line 2"));
     // One good line does not hide another that is nearly one, before it or after it.
     for near in ["#expect NR", "# Expect NR", "  # expect NR", "# expect RB "] {

@@ -61,6 +61,7 @@ fn it_disassembles_a_file_or_standard_input() {
 fn it_writes_the_file_that_o_names() {
     let test = "writes";
     let file = directory(test).join("out");
+    let _ = fs::remove_file(&file);
     good(&run(test, &["-o", "out"], SB.as_bytes()), b"");
     assert_eq!(fs::read(&file).unwrap(), SB_BYTES);
     good(&run(test, &["--dis", "-o", "out"], SB_BYTES), b"");
@@ -86,8 +87,8 @@ fn an_output_that_is_the_input_is_refused() {
         bad(&run(test, &["-o", out, "--dis", "sb.order"], b""), 2, &message);
         assert_eq!(fs::read(&input).unwrap(), SB.as_bytes(), "{out}");
     }
-    // Another file with the same text is no such file; neither is a device, nor a file - beside standard input.
-    fs::write(folder.join("other"), SB).unwrap();
+    // Another file with the same bytes is no such file; neither is a device, nor a file - beside standard input.
+    fs::write(folder.join("other"), SB_BYTES).unwrap();
     good(&run(test, &["sb.order", "-o", "other"], b""), b"");
     assert_eq!(fs::read(folder.join("other")).unwrap(), SB_BYTES);
     bad(
@@ -95,9 +96,28 @@ fn an_output_that_is_the_input_is_refused() {
         1,
         "/dev/null:1:1: expected 'values', found the end of the file\n",
     );
-    fs::write(folder.join("-"), SB).unwrap();
+    fs::write(folder.join("-"), SB_BYTES).unwrap();
     good(&run(test, &["-o", "-"], SB.as_bytes()), b"");
     assert_eq!(fs::read(folder.join("-")).unwrap(), SB_BYTES);
+}
+
+#[test]
+fn bytes_replace_no_text() {
+    let test = "no-text";
+    let file = directory(test).join("other.order");
+    for text in [SB, "# notes\n", "PROGRAM\n"] {
+        fs::write(&file, text).unwrap();
+        let message = "order_asm: other.order holds no program bytes, and would be written over";
+        let output = run(test, &["-o", "other.order"], SB.as_bytes());
+        bad(&output, 2, &format!("{message}; see order_asm --help\n"));
+        assert_eq!(fs::read(&file).unwrap(), text.as_bytes());
+        good(&run(test, &["--dis", "-o", "other.order"], SB_BYTES), b"");
+    }
+    for bytes in [&b""[..], SB_BYTES, b"PR\x08"] {
+        fs::write(&file, bytes).unwrap();
+        good(&run(test, &["-o", "other.order"], SB.as_bytes()), b"");
+        assert_eq!(fs::read(&file).unwrap(), SB_BYTES);
+    }
 }
 
 #[test]
@@ -113,18 +133,24 @@ fn a_mistake_has_its_file_line_and_column_and_leaves_no_output() {
 
     bad(&run(test, &["bad.order", "-o", "never"], b""), 1, &format!("bad.order:{what}"));
     assert!(!directory(test).join("never").exists());
-    fs::write(directory(test).join("kept"), "as it was").unwrap();
+    fs::write(directory(test).join("kept"), "PR\x01 as it was").unwrap();
     bad(&run(test, &["bad.order", "-o", "kept"], b""), 1, &format!("bad.order:{what}"));
-    assert_eq!(fs::read(directory(test).join("kept")).unwrap(), b"as it was");
+    assert_eq!(fs::read(directory(test).join("kept")).unwrap(), b"PR\x01 as it was");
 }
 
 #[test]
-fn refused_bytes_get_the_number_of_the_check_and_leave_no_output() {
+fn refused_bytes_get_the_check_that_failed_in_words_and_leave_no_output() {
     let test = "refused";
-    let message = |number| format!("standard input: not a program: check {number} of document 01 fails\n");
-    bad(&run(test, &["--dis"], b""), 1, &message(1));
-    bad(&run(test, &["--dis"], b"PR\x01\x01\x01TH\x00"), 1, &message(2));
-    bad(&run(test, &["--dis", "-o", "never"], &[SB_BYTES, b"\n"].concat()), 1, &message(9));
+    let message = |check| {
+        format!("standard input: no program: check {check}; docs/FORMAT.md has the bytes of a program\n")
+    };
+    let first = message("1 failed, the input must start with a whole PR record");
+    bad(&run(test, &["--dis"], b""), 1, &first);
+    bad(&run(test, &["--dis"], SB.as_bytes()), 1, &first);
+    let second = message("2 failed, T must be 1 to 8, L 1 to 8 and K 2 to 16");
+    bad(&run(test, &["--dis"], b"PR\x01\x01\x01TH\x00"), 1, &second);
+    let last = message("9 failed, the input must end after the last record");
+    bad(&run(test, &["--dis", "-o", "never"], &[SB_BYTES, b"\n"].concat()), 1, &last);
     assert!(!directory(test).join("never").exists());
 }
 

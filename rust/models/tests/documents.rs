@@ -116,7 +116,7 @@ fn the_lines_beside_c11_are_lines() {
     let rows = text.lines().skip_while(|line| !line.starts_with("| C11 |")).skip(2);
     let lines: Vec<_> =
         rows.map_while(|row| row.strip_prefix("| ")?.split(" | ").nth(1)?.split('`').nth(1)).collect();
-    assert_eq!(lines.len(), 10);
+    assert_eq!(lines.len(), 12);
     for line in lines {
         let model = format!("values 3\nlocations x l f\nthread\n{line}\n");
         assert!(assemble(model.as_bytes()).is_ok(), "{line}");

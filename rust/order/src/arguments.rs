@@ -1,7 +1,7 @@
 //! What the command line asks for.
 
-use std::fs::File;
-use std::io::Read;
+use command::holds_other;
+use page::{is_graph, is_page};
 
 /// What is asked for.
 pub enum Asked {
@@ -116,8 +116,8 @@ impl Task {
         } else if self.draws() && self.html == self.dot {
             Err("--html and --dot need a file each".into())
         } else {
-            let html = self.html.iter().try_for_each(|file| may_write(file, "<!DOCTYPE html>"));
-            html.and(self.dot.iter().try_for_each(|file| may_write(file, "digraph ")))
+            let html = self.html.iter().try_for_each(|file| may_write(file, "page", is_page));
+            html.and(self.dot.iter().try_for_each(|file| may_write(file, "graph", is_graph)))
         }
     }
 
@@ -130,18 +130,15 @@ impl Task {
     }
 }
 
-/// Whether a file may be written: a forgotten name must cost no model. What is there already starts as what is written.
-fn may_write(file: &str, start: &str) -> Result<(), String> {
-    let is_other = || {
-        let mut found = Vec::new();
-        let opened = File::open(file).ok().filter(|it| it.metadata().is_ok_and(|it| it.is_file()));
-        let read = opened.map(|it| it.take(start.len() as u64).read_to_end(&mut found));
-        matches!(read, Some(Ok(1..))) && found != start.as_bytes()
-    };
-    if file != "-" && (file.ends_with(".order") || is_other()) {
-        return Err(format!("{file} is no page and no graph, and would be written over"));
+/// Whether a file may get what is drawn: a forgotten name must cost no model, nor what others wrote.
+fn may_write(file: &str, what: &str, is_own: fn(&[u8]) -> bool) -> Result<(), String> {
+    if file.ends_with(".order") {
+        Err(format!("{file} is the name of a model, and not of a {what}"))
+    } else if file != "-" && holds_other(file, is_own) {
+        Err(format!("{file} is no {what} that order wrote, and would be written over"))
+    } else {
+        Ok(())
     }
-    Ok(())
 }
 
 /// A number of bytes: digits, with `_` between them where it helps, and K, M or G for 1,024 and its powers.

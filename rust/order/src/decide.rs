@@ -4,7 +4,7 @@ use std::time::{Duration, Instant};
 
 use answer::{Report, Step};
 use command::tell;
-use order_check::{check_with_table, tables, Checked, Lent};
+use order_check::{check_with_table, tables, Checked, Lent, NoMemory};
 
 use crate::arguments::Task;
 use crate::input::Input;
@@ -90,8 +90,11 @@ fn in_first_table(input: &Input) -> Result<Searched, String> {
         return Ok((Checked { report, steps, lent }, table));
     }
     Err(format!(
-        "{}: the printing program reports {report}, and the library {} with as long a table: they are not of one build",
-        input.name, expected.report
+        "{}: the printing program reports {report}, and the library {} with as long a table: they are not of one \
+         build. The program is {}",
+        input.name,
+        expected.report,
+        printing::name()
     ))
 }
 
@@ -99,7 +102,13 @@ fn in_first_table(input: &Input) -> Result<Searched, String> {
 type Searched = (Checked, Vec<u8>);
 
 fn check(input: &Input, lent: Lent) -> Result<Searched, String> {
-    check_with_table(&input.bytes, lent).map_err(|error| format!("{}: {error}", input.name))
+    check_with_table(&input.bytes, lent).map_err(|NoMemory { asked }| no_memory(input, asked))
+}
+
+/// What is said where the memory could not be had.
+fn no_memory(input: &Input, asked: Lent) -> String {
+    let [table, index] = [asked.table, asked.index].map(shown);
+    format!("{}: no memory for a table of {table} and its index of {index}", input.name)
 }
 
 /// What is said between two tables.

@@ -2,9 +2,10 @@
 
 use std::fs;
 
+use command::name_of;
 use explain::Explanation;
 use models::Source;
-use page::{dot, Graph, Page};
+use page::{dot, no_graph, Graph, Page};
 use program::Program;
 
 use crate::arguments::Task;
@@ -18,39 +19,44 @@ static NOTHING: Source = Source {
     statements: Vec::new(),
 };
 
-/// Writes what the task asks for, and hands back what takes the report's place.
+/// What came of drawing.
+#[derive(Default)]
+pub struct Drawn {
+    /// What takes the report's place.
+    pub instead: Option<String>,
+    /// Which files could not be written, and why.
+    pub failures: Vec<String>,
+}
+
+/// Writes what the task asks for.
 pub fn draw(
     input: &Input,
     decided: &Decided,
     explanation: Option<&Explanation>,
     words: &str,
     task: &Task,
-) -> Result<Option<String>, String> {
+) -> Drawn {
     let source = input.source.as_ref().unwrap_or(&NOTHING);
     let graph = explanation.map(|it| Graph { execution: it.execution(), cycle: it.cycle() });
-    let mut instead = None;
+    let mut drawn = Drawn::default();
     if let Some(file) = &task.html {
         let Input { name, text, .. } = input;
         let page = Page { name, text, source, report: &decided.report, graph, words };
-        put(file, page.html(), &mut instead)?;
+        drawn.put(file, page.html());
     }
     if let Some(file) = &task.dot {
-        let drawn = graph.map_or_else(|| no_graph(decided), |graph| dot(source, &graph));
-        put(file, drawn, &mut instead)?;
+        drawn.put(file, graph.map_or_else(|| no_graph(&decided.report), |graph| dot(source, &graph)));
     }
-    Ok(instead)
+    drawn
 }
 
-/// Writes a file; `-` stands for the report's place.
-fn put(file: &str, text: String, instead: &mut Option<String>) -> Result<(), String> {
-    if file == "-" {
-        instead.get_or_insert_default().push_str(&text);
-        return Ok(());
+impl Drawn {
+    /// Writes a file; `-` stands for the report's place.
+    fn put(&mut self, file: &str, text: String) {
+        if file == "-" {
+            self.instead = Some(text);
+        } else if let Err(error) = fs::write(file, text) {
+            self.failures.push(format!("{}: {error}", name_of(file)));
+        }
     }
-    fs::write(file, text).map_err(|error| format!("{file}: {error}"))
-}
-
-/// What is drawn where there is no graph, so that no older one is taken for this.
-fn no_graph(decided: &Decided) -> String {
-    format!("digraph order {{\n  label=\"{}: only NR has a graph\";\n}}\n", decided.report)
 }

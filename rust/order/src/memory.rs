@@ -2,7 +2,8 @@
 
 use std::fs;
 
-/// The most that tables with their indexes get by themselves: 1 GiB, or a quarter of the machine's memory.
+/// The most that tables with their indexes get by themselves: 1 GiB or a quarter of the machine's memory, whichever is
+/// less.
 pub fn limit() -> usize {
     const MOST: usize = 1 << 30;
     [field("MemTotal"), group("memory.max")]
@@ -35,6 +36,7 @@ pub fn shown(bytes: usize) -> String {
     const UNITS: [(&str, usize); 3] = [("GiB", 1 << 30), ("MiB", 1 << 20), ("KiB", 1 << 10)];
     // A little less than a unit is shown as one.
     match UNITS.into_iter().find(|&(_, unit)| bytes >= unit - unit / 100) {
+        None if bytes == 1 => "1 byte".into(),
         None => format!("{bytes} bytes"),
         Some((name, unit)) if bytes.is_multiple_of(unit) => format!("{} {name}", bytes / unit),
         Some((name, unit)) => format!("{:.1} {name}", bytes as f64 / unit as f64),
@@ -49,6 +51,8 @@ mod tests {
     fn bytes_are_shown_in_the_largest_unit() {
         let cases = [
             (0, "0 bytes"),
+            (1, "1 byte"),
+            (2, "2 bytes"),
             (1013, "1013 bytes"),
             (1020, "1.0 KiB"),
             (1024, "1 KiB"),

@@ -13,19 +13,27 @@ pub const TABLE: usize = 49_152;
 
 /// What it reports of the program bytes, or why there is no report.
 pub fn report(program: &[u8]) -> Result<(Report, Vec<Step>), String> {
-    let path = path();
-    let output = run(&path, program).map_err(|error| format!("{}: {error}", path.display()))?;
+    let output = run(&path(), program).map_err(|error| format!("{}: {error}", name()))?;
     // It has no exit status of its own: only its text tells whether all went well.
     std::str::from_utf8(&output)
         .ok()
         .and_then(report_in)
-        .ok_or_else(|| format!("{}: it wrote no whole report", path.display()))
+        .ok_or_else(|| format!("{}: it wrote no whole report", name()))
+}
+
+/// What messages call it. Who forgot the variable learns of it.
+pub fn name() -> String {
+    let origin = if named().is_some() { " (named by ORDER_CHECK)" } else { "" };
+    format!("{}{origin}", path().display())
 }
 
 /// The program that `ORDER_CHECK` names, or the one beside this command.
 fn path() -> PathBuf {
-    let beside = || env::current_exe().unwrap_or_default().with_file_name("order_check");
-    env::var_os("ORDER_CHECK").map_or_else(beside, PathBuf::from)
+    named().unwrap_or_else(|| env::current_exe().unwrap_or_default().with_file_name("order_check"))
+}
+
+fn named() -> Option<PathBuf> {
+    env::var_os("ORDER_CHECK").filter(|name| !name.is_empty()).map(PathBuf::from)
 }
 
 fn run(path: &PathBuf, input: &[u8]) -> io::Result<Vec<u8>> {

@@ -10,7 +10,7 @@ use models::collection::{expected, Verdict};
 use crate::arguments::{Show, Task};
 use crate::data::json;
 use crate::decide::{decide, Decided};
-use crate::draw::draw;
+use crate::draw::{draw, Drawn};
 use crate::input::Input;
 use crate::reason::explanation;
 use crate::status::Status;
@@ -24,7 +24,7 @@ pub fn shown(input: &Input, task: &Task) -> Result<(String, Status), String> {
         Show::Expected => return as_expected(input, &decided.report),
         Show::Report if !task.draws() && task.files.len() > 1 => named(input, &decided.report),
         Show::Report if !task.draws() => lines(&decided),
-        _ => with_reasons(input, &decided, task)?,
+        _ => return with_reasons(input, &decided, task),
     };
     Ok((text, Status::of(&decided.report)))
 }
@@ -61,20 +61,21 @@ fn named(input: &Input, report: &Report) -> String {
     format!("{}: {report}\n", input.name)
 }
 
-/// What is shown where the reasons are asked for, in whatever form.
-fn with_reasons(input: &Input, decided: &Decided, task: &Task) -> Result<String, String> {
+/// What is shown where the reasons are asked for, in whatever form. A page that can't be written costs no report.
+fn with_reasons(input: &Input, decided: &Decided, task: &Task) -> Result<(String, Status), String> {
     let explanation = explanation(input, decided)?;
     let explanation = explanation.as_ref();
     let words = words(input, decided, explanation, task.verbose);
-    if let Some(instead) = draw(input, decided, explanation, &words, task)? {
-        return Ok(instead);
-    }
-    Ok(match task.show {
+    let Drawn { instead, failures } = draw(input, decided, explanation, &words, task);
+    failures.iter().for_each(|message| tell(format!("order: {message}")));
+    let status = if failures.is_empty() { Status::of(&decided.report) } else { Status::Failed };
+    let text = instead.unwrap_or_else(|| match task.show {
         Show::Json => format!("{}\n", json(input, decided, explanation)),
         Show::Words if task.files.len() > 1 => format!("{}\n{words}\n", named(input, &decided.report)),
         Show::Words => format!("{}\n\n{words}", decided.report),
         Show::Report | Show::Expected => lines(decided),
-    })
+    });
+    Ok((text, status))
 }
 
 /// What the report means.

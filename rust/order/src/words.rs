@@ -3,7 +3,7 @@
 use answer::Report;
 use explain::fence_locations;
 use models::Source;
-use program::{Line, Operand, Program};
+use program::{what_check_asks, Line, Operand, Program};
 
 use crate::decide::{seconds, situations, Decided};
 use crate::input::Input;
@@ -118,7 +118,7 @@ fn full(count: usize, decided: &Decided) -> String {
     format!(
         "Undecided: there is no witness in the first {}, and there are more\n\
          than the table of {} has places for. Nothing is said about the model.\n",
-        situations(count),
+        if count == 1 { "situation".into() } else { situations(count) },
         shown(decided.lent.table)
     )
 }
@@ -131,13 +131,12 @@ pub fn effort(decided: &Decided) -> String {
         return String::new();
     };
     let Decided { lent, time, .. } = decided;
-    format!(
-        "{} in a table of {} and an index of {}, {}.\n",
-        situations(count),
-        shown(lent.table),
-        shown(lent.index),
-        seconds(*time)
-    )
+    // The printing program has an index of its own, and is lent none.
+    let index = match lent.index {
+        0 => String::new(),
+        index => format!(" and an index of {}", shown(index)),
+    };
+    format!("{} in a table of {}{index}, {}.\n", situations(count), shown(lent.table), seconds(*time))
 }
 
 /// Why the bytes are no program.
@@ -147,21 +146,5 @@ pub fn refused(input: &Input, number: u8) -> String {
     } else {
         ""
     };
-    format!("check {number} failed, {}{taken}", check(number))
-}
-
-/// What a check of document 01 asks, as docs/FORMAT.md lists them.
-fn check(number: u8) -> &'static str {
-    match number {
-        1 => "the input must start with a whole PR record",
-        2 => "T must be 1 to 8, L 1 to 8 and K 2 to 16",
-        3 => "the record that is due must stand there, whole and with its mark",
-        4 => "a thread must have at most 64 lines",
-        5 => "the op must be 1 to 10",
-        6 => "a used register must be 0 to 3, and every unused field 0",
-        7 => "a used target must be in range",
-        8 => "each used operand must be in range",
-        9 => "the input must end after the last record",
-        _ => "which is one of a later version",
-    }
+    format!("check {number} failed, {}{taken}", what_check_asks(number))
 }

@@ -61,6 +61,23 @@ fn the_example_of_the_header_runs() {
 }
 
 #[test]
+fn the_line_of_the_header_compiles_a_caller() {
+    let header = header();
+    let line = header.lines().find_map(|line| line.strip_prefix(" *     cc -I")).expect("a line with cc");
+    let here = Path::new(env!("CARGO_MANIFEST_DIR"));
+    let arguments = line.split(' ').map(|argument| match argument {
+        "caller.c" => here.join("tests/caller.c"),
+        "target/staticlib/liborder_check_c.a" => PathBuf::from(env!("ORDER_CHECK_ARCHIVE")),
+        _ => PathBuf::from(argument),
+    });
+    let program = Path::new(env!("CARGO_TARGET_TMPDIR")).join("by-line");
+    let mut compiler = Command::new("cc");
+    compiler.arg("-I").args(arguments).arg("-o").arg(program).current_dir(here.join("../.."));
+    let compiled = compiler.output().unwrap();
+    assert!(compiled.status.success(), "{}", String::from_utf8_lossy(&compiled.stderr));
+}
+
+#[test]
 fn the_version_is_that_of_the_crates() {
     let version = env!("CARGO_PKG_VERSION_MINOR");
     assert!(header().contains(&format!("#define ORDER_CHECK_VERSION {version}\n")), "{version}");

@@ -1,9 +1,11 @@
 //! The execution graph for graphviz.
 
+use answer::Report;
 use explain::Edge;
 use models::Source;
 
 use crate::drawn::Drawn;
+use crate::own::NO_GRAPH;
 use crate::picture::{without_head, Picture, Point, Rect, Wire};
 use crate::relations::{look, Look};
 use crate::words::Words;
@@ -36,6 +38,12 @@ pub fn dot(source: &Source, graph: &Graph) -> String {
         "digraph execution {{\n  graph {all};\n  node {all_nodes};\n  edge {all_edges};\n  \
          {{\n    rank=min;\n{starts}  }}\n{clusters}{edges}}}\n"
     )
+}
+
+/// What stands for the graph of a report that has none, so that no older one is taken for it.
+pub fn no_graph(report: &Report) -> String {
+    let [start, end] = NO_GRAPH;
+    format!("{start}{report}{end}")
 }
 
 /// The column of a thread. Heights count upward.

@@ -8,6 +8,7 @@ mod element;
 mod escape;
 mod html;
 mod legend;
+mod own;
 mod picture;
 mod relations;
 mod steps;
@@ -23,7 +24,8 @@ use element::element;
 use picture::{svg, Picture};
 use style::style;
 
-pub use dot::dot;
+pub use dot::{dot, no_graph};
+pub use own::{is_graph, is_page};
 pub use verdict::verdict;
 
 /// The picture of a graph alone, as a file of SVG with a style of its own.

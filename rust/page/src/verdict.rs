@@ -29,7 +29,7 @@ pub fn reason(source: &Source, report: &Report) -> String {
         ),
         Report::NotRobust { steps, thread, kind, location, value, .. } => {
             let name = source.locations.get(location).map_or("?", String::as_str);
-            let these = if steps == 1 { "this 1 step".into() } else { format!("these {steps} steps") };
+            let these = if steps == 1 { "this step".into() } else { format!("these {steps} steps") };
             format!("after {these} thread {thread} may {}.", stale(kind, name, value))
         }
         Report::Short { wanted } => {
@@ -37,7 +37,7 @@ pub fn reason(source: &Source, report: &Report) -> String {
         }
         Report::Full { count } => format!(
             "the table is full. There is no witness in the first {}, and there are more.",
-            situations(count)
+            if count == 1 { "situation".into() } else { situations(count) }
         ),
         Report::Refused { number } => format!("check {number} of the input failed first."),
         _ => format!("{report}."),
@@ -79,7 +79,7 @@ mod tests {
         );
         says(
             not_robust(1, Kind::Write),
-            "Not robust: after this 1 step thread 2 may place its write of turn directly after an older \
+            "Not robust: after this step thread 2 may place its write of turn directly after an older \
              write of 3, before the newest.",
         );
         says(
@@ -98,7 +98,7 @@ mod tests {
         );
         says(
             Report::Full { count: 1 },
-            "Undecided: the table is full. There is no witness in the first 1 situation, and there are more.",
+            "Undecided: the table is full. There is no witness in the first situation, and there are more.",
         );
         says(
             Report::Short { wanted: 12 },

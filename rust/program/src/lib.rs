@@ -2,12 +2,14 @@
 //! places. The reader was written from document 01 alone, apart from the proved one that it is compared with.
 #![forbid(unsafe_code)]
 
+mod checks;
 mod data;
 mod encode;
 pub mod limits;
 mod places;
 mod read;
 
+pub use checks::what_check_asks;
 pub use data::{Line, Operand, Program};
 pub use encode::{encode, fields};
 pub use places::{place_size, places_available};

@@ -10,8 +10,13 @@ fn headers_of_other_forms() {
     let start = "every location starts with 0: give 0 the meaning of the value that you start with";
     headers(start, &["values 2\nlocations x = 1\n", "values 2\nlocations x y := 0\n"]);
     headers(start, &["values 2\nlocations x=0, y=0\n"]);
-    let late = "definitions stand in the header, or before the first line of a thread";
-    lines(late, &["x := 1\nregisters a = r0", "x := 1\nconstants a = 1"]);
+    let early = "definitions stand after 'values'";
+    headers(
+        early,
+        &["constants a = 1\nvalues 2\n", "# first\n  registers a = r0\nvalues 2\n", "constants\n"],
+    );
+    let late = "definitions stand in the header, or directly after 'thread'";
+    lines(late, &["x := 1\nregisters a = r0", "x := 1\nconstants a = 1", "constants a = 1"]);
 }
 
 #[test]

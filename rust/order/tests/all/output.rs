@@ -1,10 +1,12 @@
 //! Standard output, and the command line.
 
+use std::ffi::OsStr;
 use std::fs::File;
 use std::io::pipe;
+use std::os::unix::ffi::OsStrExt;
 use std::process::{Command, Stdio};
 
-use crate::user::{ends, ends_quietly, order, run};
+use crate::user::{ends, ends_quietly, finish, order, run};
 
 /// Runs it on SB with this standard output: its status, and what it says.
 fn into(command: &mut Command, output: impl Into<Stdio>) -> (Option<i32>, String) {
@@ -85,15 +87,31 @@ fn a_wrong_command_line_is_2() {
         (&["--table", "1", "--table=2", "sb.order"], "expected one --table"),
         (&["--html", "a", "--html", "b", "sb.order"], "expected one --html"),
         (&["--html", "a", "--dot", "a", "sb.order"], "--html and --dot need a file each"),
-        (&["--html", "sb.order", "mp.order"], "sb.order is no page and no graph, and would be written over"),
-        (&["--dot", "new.order", "mp.order"], "new.order is no page and no graph, and would be written over"),
+        (&["--html", "sb.order", "mp.order"], "sb.order is the name of a model, and not of a page"),
+        (&["--dot", "new.order", "mp.order"], "new.order is the name of a model, and not of a graph"),
         (
             &["--html", "README.md", "mp.order"],
-            "README.md is no page and no graph, and would be written over",
+            "README.md is no page that order wrote, and would be written over",
         ),
-        (&["--dot", "README.md", "mp.order"], "README.md is no page and no graph, and would be written over"),
+        (
+            &["--dot", "README.md", "mp.order"],
+            "README.md is no graph that order wrote, and would be written over",
+        ),
         (&["--json", "--expect", "sb.order"], "--explain, --json and --expect exclude each other"),
     ] {
         assert_eq!(ends(&run(arguments, b""), 2, ""), format!("order: {what}; see order --help\n"));
+    }
+}
+
+#[test]
+fn a_file_name_that_is_no_text_is_named_as_one() {
+    for (argument, shown) in
+        [(&b"caf\xe9\n.order"[..], "file name 'caf\u{fffd}\\n.order'"), (b"-\xe9", "argument '-\u{fffd}'")]
+    {
+        let output = finish(order().arg("sb.order").arg(OsStr::from_bytes(argument)), b"");
+        assert_eq!(
+            ends(&output, 2, ""),
+            format!("order: the {shown} is not valid UTF-8; see order --help\n")
+        );
     }
 }

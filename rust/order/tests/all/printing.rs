@@ -17,9 +17,14 @@ fn said(test: &str, script: &str) -> String {
 /// The same, where it blames the printing program.
 fn said_of(test: &str, script: &str) -> String {
     let said = said(test, script);
-    let program = Path::new(env!("CARGO_TARGET_TMPDIR")).join(test).join("printing");
-    assert!(said.starts_with(&format!("order: {}: ", program.display())), "{said}");
+    assert!(said.starts_with(&format!("order: {}: ", named(test))), "{said}");
     said
+}
+
+/// What messages call it.
+fn named(test: &str) -> String {
+    let program = Path::new(env!("CARGO_TARGET_TMPDIR")).join(test).join("printing");
+    format!("{} (named by ORDER_CHECK)", program.display())
 }
 
 #[test]
@@ -41,7 +46,7 @@ fn a_program_that_fails_is_no_success() {
     assert!(said.contains("it ended with signal: 9"), "{said}");
     let missing = folder("missing").join("none");
     let said = ends(&finish(order().env("ORDER_CHECK", &missing).arg("-"), SB), 1, "");
-    assert!(said.starts_with(&format!("order: {}: ", missing.display())), "{said}");
+    assert!(said.starts_with(&format!("order: {} (named by ORDER_CHECK): ", missing.display())), "{said}");
 }
 
 #[test]
@@ -51,10 +56,9 @@ fn a_report_that_is_not_the_library_s_is_no_success() {
         let script = format!("cat >/dev/null; cat <<'END'\n{lines}\nEND");
         let said = said(test, &script);
         assert!(said.starts_with("order: standard input: the printing program reports "), "{said}");
-        assert!(
-            said.ends_with("the library NR 7 3 2 R 0 0 with as long a table: they are not of one build\n"),
-            "{said}"
-        );
+        let end =
+            "the library NR 7 3 2 R 0 0 with as long a table: they are not of one build. The program is";
+        assert!(said.ends_with(&format!("{end} {}\n", named(test))), "{said}");
     }
 }
 
@@ -72,4 +76,8 @@ fn the_program_beside_the_command_serves() {
     fs::copy(checker(), folder.join("order_check")).unwrap();
     let mut command = std::process::Command::new(folder.join("order"));
     ends(&finish(command.env_remove("ORDER_CHECK").arg("-"), SB), 10, SB_LINES);
+    ends(&finish(command.env("ORDER_CHECK", ""), SB), 10, SB_LINES);
+    fs::remove_file(folder.join("order_check")).unwrap();
+    let said = ends(&finish(command.env_remove("ORDER_CHECK"), SB), 1, "");
+    assert!(said.contains("beside/order_check: ") && !said.contains("ORDER_CHECK"), "{said}");
 }

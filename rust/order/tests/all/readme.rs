@@ -36,3 +36,9 @@ fn its_model_gets_the_report_and_the_explanation_that_it_shows() {
     let after = &printed[shown.trim_end().len()..];
     assert!(after.starts_with("\n\nWhat would help"), "{after}");
 }
+
+#[test]
+fn it_names_the_rust_that_is_needed() {
+    let needed = format!("Rust {} or later", env!("CARGO_PKG_RUST_VERSION"));
+    assert!(readme().contains(&needed), "{needed}");
+}

@@ -42,7 +42,10 @@ fn a_long_run_has_a_short_cycle() {
         .collect();
     assert!((2..=5).contains(&cycle.len()), "{text}");
     let all = printed(&["-q", "-v", "--explain", "ring-buffer-sc.order"], b"", 10);
-    assert!(all.lines().count() > text.lines().count() + 20, "local lines are shown with -v\n{all}");
+    assert!(
+        all.lines().count() > text.lines().count() + 20,
+        "lines without an access are shown with -v\n{all}"
+    );
     assert!(all.contains("917 situations in a table of "), "{all}");
 }
 
@@ -98,7 +101,7 @@ fn what_no_run_reaches_is_named() {
 fn undecided_and_refused_are_explained_too() {
     let output = run(&["--explain", "--table", "100", "mp.order"], b"");
     let text = String::from_utf8(output.stdout).unwrap();
-    assert!(text.starts_with("FU 1\n\nUndecided: there is no witness in the first 1 situation, "), "{text}");
+    assert!(text.starts_with("FU 1\n\nUndecided: there is no witness in the first situation, "), "{text}");
     let output = run(&["--explain", "-"], b"PR");
     assert_eq!(output.status.code(), Some(1));
     let text = String::from_utf8(output.stdout).unwrap();
@@ -160,11 +163,24 @@ fn a_page_and_a_graph_are_written_beside_the_report() {
 }
 
 #[test]
-fn a_page_that_can_not_be_written_is_a_failure() {
-    let said = ends(&run(&["--html", "no/such/folder", "mp.order"], b""), 1, "");
+fn a_page_that_can_not_be_written_is_a_failure_and_costs_no_report() {
+    let said = ends(&run(&["--html", "no/such/folder", "mp.order"], b""), 1, "RB 13\n");
     assert!(said.starts_with("order: no/such/folder: "), "{said}");
-    let said = ends(&run(&["--dot", "/dev/full", "mp.order"], b""), 1, "");
+    let said = ends(&run(&["--dot", "/dev/full", "sb.order"], b""), 1, SB_LINES);
     assert!(said.starts_with("order: /dev/full: "), "{said}");
+    // Nor the other file, nor what takes the report's place.
+    let graph = folder("half-drawn").join("graph.dot");
+    let both = ["--html", "no/such/folder", "--dot", graph.to_str().unwrap(), "sb.order"];
+    ends(&run(&both, b""), 1, SB_LINES);
+    let text = fs::read_to_string(&graph).unwrap();
+    ends(&run(&["--html", "no/such/folder", "--dot", "-", "sb.order"], b""), 1, &text);
+    let data = run(&["--json", "--html", "no/such/folder", "mp.order"], b"");
+    assert_eq!(data.status.code(), Some(1));
+    assert!(String::from_utf8(data.stdout).unwrap().contains("\"report\":\"RB 13\","));
+}
+
+#[test]
+fn a_page_or_a_graph_that_does_not_fit_is_a_wrong_command_line() {
     for (arguments, what) in [
         (&["--html"][..], "expected a file to write after --html"),
         (&["--html", "--explain", "sb.order"], "expected a file to write after --html, found --explain"),
@@ -175,6 +191,30 @@ fn a_page_that_can_not_be_written_is_a_failure() {
     ] {
         assert_eq!(ends(&run(arguments, b""), 2, ""), format!("order: {what}; see order --help\n"));
     }
+}
+
+#[test]
+fn only_what_order_wrote_is_written_over() {
+    let folder = folder("own");
+    let at = |arguments: &[&str]| finish(order().current_dir(&folder).args(arguments).arg("-"), SB);
+    ends_quietly(&at(&["--html", "page", "--dot", "graph"]), 10, SB_LINES);
+    fs::write(folder.join("my-page"), "<!DOCTYPE html>\n<html lang=\"en\">mine</html>\n").unwrap();
+    fs::write(folder.join("my-graph"), "digraph order {\n  a -> b;\n}\n").unwrap();
+    for (option, what, files) in
+        [("--html", "page", ["graph", "my-page"]), ("--dot", "graph", ["page", "my-graph"])]
+    {
+        for file in files {
+            let before = fs::read(folder.join(file)).unwrap();
+            let message = format!(
+                "order: {file} is no {what} that order wrote, and would be written over; see order --help\n"
+            );
+            assert_eq!(ends(&at(&[option, file]), 2, ""), message);
+            assert_eq!(fs::read(folder.join(file)).unwrap(), before);
+        }
+    }
+    fs::write(folder.join("empty"), "").unwrap();
+    ends_quietly(&at(&["--html", "page", "--dot", "empty"]), 10, SB_LINES);
+    ends_quietly(&at(&["--html", "/dev/null"]), 10, SB_LINES);
 }
 
 #[test]

@@ -95,6 +95,9 @@ fn nothing_is_asked_for_where_nothing_must_be_built() {
     ends_quietly(&finish(&mut tree.shell("./order sb"), b""), 10, SB_LINES);
     ends_quietly(&finish(&mut tree.shell("./order - < sb"), b""), 10, SB_LINES);
     ends_quietly(&finish(&mut tree.shell("cat sb | ./order -"), b""), 10, SB_LINES);
+    tree.change("rust/README.md");
+    tree.change("crates/a.md");
+    ends_quietly(&finish(&mut tree.shell("./order sb"), b""), 10, SB_LINES);
 }
 
 #[test]

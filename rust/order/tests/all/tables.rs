@@ -1,8 +1,9 @@
 //! In which tables is searched.
 
 use std::fs;
+use std::process::Command;
 
-use crate::user::{ends, ends_quietly, models, run, SB, SB_LINES};
+use crate::user::{ends, ends_quietly, finish, models, run, SB, SB_LINES};
 
 #[test]
 fn a_full_table_is_followed_by_longer_ones() {
@@ -28,6 +29,9 @@ fn what_the_search_took_is_said_when_asked_for() {
         said.starts_with("order: seqlock.order: 17823 situations in a table of 3 MiB and an index of "),
         "{said}"
     );
+    // The printing program has an index of its own.
+    let said = ends(&run(&["-v", "mp.order"], b""), 0, "RB 13\n");
+    assert!(said.starts_with("order: mp.order: 13 situations in a table of 48 KiB, "), "{said}");
     let said = ends(&run(&["-v", "-"], b"PR"), 1, "NO 1\n");
     assert_eq!(said.lines().count(), 1, "{said}");
 }
@@ -42,6 +46,8 @@ fn one_table_is_one_table() {
     ends_quietly(&run(&["--table=10M", "seqlock.order"], b""), 0, "RB 17823\n");
     ends_quietly(&run(&["--table", "413", "-"], SB), 10, SB_LINES);
     ends(&run(&["--table", "412", "-"], SB), 11, "FU 6\n");
+    let said = ends(&run(&["--table", "1", "-"], SB), 11, "FU 0\n");
+    assert!(said.contains("more than a table of 1 byte holds"), "{said}");
     ends(&run(&["--table", "0", "-"], SB), 11, "FU 0\n");
     ends(&run(&["--table", "0", "-"], b"PR"), 1, "NO 1\n");
 }
@@ -74,4 +80,13 @@ fn a_table_that_can_not_be_had_is_a_message() {
         assert!(said.starts_with("order: mp.order: a table of "), "{said}");
         assert!(said.contains("memory"), "{said}");
     }
+}
+
+#[test]
+fn memory_that_the_system_refuses_is_a_message_too() {
+    let mut shell = Command::new("sh");
+    let line = "ulimit -v 200000; exec \"$0\" --table 300M mp.order";
+    shell.args(["-c", line, env!("CARGO_BIN_EXE_order")]).current_dir(models());
+    let said = ends(&finish(&mut shell, b""), 1, "");
+    assert_eq!(said, "order: mp.order: no memory for a table of 300 MiB and its index of 81.4 MiB\n");
 }

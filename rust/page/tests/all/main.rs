@@ -8,6 +8,7 @@ mod edges;
 mod escaping;
 mod geometry;
 mod graphviz;
+mod own;
 mod parts;
 mod picture;
 mod readme;
