@@ -70,14 +70,16 @@ extern "C" {
 
 /* Raised by every version that changes what a caller sees. 1 had a byte a step; 2 has four, with the access; 3 wants
    exactly the bytes of the steps for ORDER_TRACE_SHORT, where 2 promised two bounds; 4 writes the first slots of an
-   index only, where 3 wrote all. A caller made for 2 or 3 works, unless it reads the index. */
-#define ORDER_CHECK_VERSION 4
+   index only, where 3 wrote all; 5 takes up to sixteen locations, and its places have T + 2L bytes more. A caller made
+   for 4 works, with fewer places in its table, unless it reads the places or has names for eight locations only; one
+   made for 2 or 3 likewise, unless it reads the index. */
+#define ORDER_CHECK_VERSION 5
 
 /* The bytes of a place of the table, for T threads and L locations. */
 #define ORDER_PLACE_SIZE(T, L) \
-    (9 + (size_t)(T) * (6 + 4 * (size_t)(L)) + (size_t)(L) * (3 + 4 * (size_t)(L)))
+    (9 + (size_t)(T) * (7 + 4 * (size_t)(L)) + (size_t)(L) * (5 + 4 * (size_t)(L)))
 
-/* A call uses less stack than this, in bytes, whatever it is given. This is measured, not proved: it uses 4,000 or so. */
+/* A call uses less stack than this, in bytes, whatever it is given. This is measured, not proved: it uses 6,500 or so. */
 #define ORDER_CHECK_STACK 16384
 
 /* The numbers of an answer, by their index. Every call writes all of them; what a verdict does not use is 0. */

@@ -1,13 +1,14 @@
--- The limits of document 01, sections "Program bytes" and "Table", each in one place: the constants of src/lib.rt.
+-- The limits of document 01, sections "Program bytes" and "Table", and of document 02, Point 3, each in one place: the
+-- constants of src/lib.rt.
 use Prim.Native.Nat.{ℕ}
 
 -- "threads 1 to 8"
 abbrev pub maxThreads : ℕ
 maxThreads = 8
 
--- "locations 1 to 8"
+-- "L may be 1 to 16"
 abbrev pub maxLocations : ℕ
-maxLocations = 8
+maxLocations = 16
 
 -- "values 0 to K−1 with K from 2 to 16"
 abbrev pub minValues : ℕ

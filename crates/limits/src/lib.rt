@@ -1,12 +1,12 @@
-// The limits of document 01, each in one place. specs/Limits.antt has a definition of the same meaning for each.
+// The limits of documents 01 and 02, each in one place. specs/Limits.antt has a definition of the same meaning for each.
 
 // Threads of a program at most.
 pub const THREADS: usize = 8;
 
 // Locations of a program at most, and the type of a set of them: one bit for each.
-pub const LOCATIONS: usize = 8;
+pub const LOCATIONS: usize = 16;
 
-pub type LocSet = u8;
+pub type LocSet = u16;
 
 // Values of a location at least.
 pub const MIN_VALUES: usize = 2;

@@ -17,7 +17,7 @@ const TABLE: usize = 49152;
 // "The printing program's trace grows to 8,192 bytes."
 const TRACE: usize = 8192;
 
-// An index that has room for all places of the table: at most 1,890, of 26 bytes each, in half of its slots.
+// An index that has room for all places of the table: at most 1,694, of 29 bytes each, in half of its slots.
 const INDEX: usize = 4096;
 
 // Room for the longest text: a line of at most 76 bytes, and one of at most 17 for each step that the trace can have.

@@ -1,5 +1,5 @@
--- Cases of document 01 that the reader decides, and inputs with two faults, of which the first check in document 01's order
--- wins. One table, one computed test over it.
+-- Cases of document 01 that the reader decides, the locations of document 02, Point 3, and inputs with two faults, of
+-- which the first check in document 01's order wins. One table, one computed test over it.
 use Prim.Native.Nat.{ℕ}
 use mathlib.Core.Path.{_≡_, refl}
 use mathlib.Core.Bool.{Bool, true, _&&_}
@@ -50,6 +50,12 @@ cases =
     ∷ case (oneLine (lineRecord 4 0 2 1 0)) 7
     -- "PR 1 1 2, TH 0."
     ∷ case (header 1 1 2 ++ thread 0) 0
+    -- "L may be 1 to 16"
+    ∷ case (header 1 0 2 ++ thread 0) 2
+    ∷ case (header 1 16 2 ++ thread 0) 0
+    ∷ case (header 1 17 2 ++ thread 0) 2
+    ∷ case (header 1 16 2 ++ thread 1 ++ lineRecord 5 0 15 1 0) 0
+    ∷ case (header 1 16 2 ++ thread 1 ++ lineRecord 5 0 16 1 0) 7
     -- 1 before 2: a header cut short, of nine threads
     ∷ case (markPR ++ 9 ∷ 1 ∷ []) 1
     -- 2 before 3: no locations, and no thread

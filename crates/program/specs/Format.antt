@@ -1,5 +1,5 @@
--- The program bytes, as document 01 has them in its sections "Program bytes" and "Checks": from a list of bytes to the
--- number of the first failed check, 1 to 9, or the program. "All fields are one byte, an unsigned number": a byte is a
+-- The program bytes, as document 01 has them in its sections "Program bytes" and "Checks", with the locations of document
+-- 02, Point 3: from a list of bytes to the number of the first failed check, 1 to 9, or the program. "All fields are one byte, an unsigned number": a byte is a
 -- number here. A record is read with the bytes after it.
 use Prim.Native.Nat.{ℕ, zero, suc, _+_, _-_}
 use mathlib.Core.Bool.{Bool, true, false, not, cond, _&&_, _||_}
@@ -45,7 +45,8 @@ startsWith (m ∷ mark) (b ∷ bytes) = eqb b m && startsWith mark bytes
 unfoldable pub isRecord : List ℕ → ℕ → List ℕ → Bool
 isRecord mark size bytes = leb size (length bytes) && startsWith mark bytes
 
--- Check 2: "Are T, L and K in range?" "threads 1 to 8, locations 1 to 8, values 0 to K−1 with K from 2 to 16."
+-- Check 2: "Are T, L and K in range?" "threads 1 to 8, .. values 0 to K−1 with K from 2 to 16.", and "L may be 1 to 16",
+-- document 02, Point 3.
 unfoldable pub areInRange : (T L K : ℕ) → Bool
 areInRange T L K =
     (leb 1 T && leb T maxThreads) && ((leb 1 L && leb L maxLocations) && (leb minValues K && leb K maxValues))

@@ -1,4 +1,4 @@
--- The programs within the limits of document 01, and the valid ones, of which no limits are asked.
+-- The programs within the limits of documents 01 and 02, and the valid ones, of which no limits are asked.
 use Prim.Native.Nat.{ℕ, _≤_, _<_}
 use mathlib.Core.List.{List, [], _∷_}
 use lib.ListN.{length}
@@ -35,7 +35,7 @@ pub record ThreadWithin (L K : ℕ) (lines : List Line) : Type 0 where
   pub few : length lines ≤ maxLines
   pub each : All (LineWithin L K (length lines)) lines
 
--- A program within the limits of document 01.
+-- A program within the limits (crate `limits`).
 pub record Within (p : Program) : Type 0 where
   pub some-threads : 1 ≤ length (p .threads)
   pub few-threads : length (p .threads) ≤ maxThreads

@@ -38,10 +38,10 @@ examples =
     "NR 8 3 2 W 0 0\nST 1 W 0 1\nST 1 W 1 2\nST 2 W 1 1\n"
     -- "L 0 0 for a local line"
     ∷ example (notRobust 3 2 2 Read 0 0) (2 ∷ 0 ∷ 0 ∷ 0 ∷ 2 ∷ 3 ∷ 0 ∷ 1 ∷ []) "NR 3 2 2 R 0 0\nST 2 L 0 0\nST 2 M 0 1\n"
-    -- "MP .. 767: RB 13. 766: 11, count 12."
+    -- MP in 845 bytes: RB 13. In 844: 11, count 12.
     ∷ example (Robust 13) [] "RB 13\n"
     ∷ example (Full 12) [] "FU 12\n"
-    -- "SB .. 412: 11, count 6.", "PR 1 1 2, TH 0 .. 25: 11, count 0."
+    -- SB in 454: 11, count 6. PR 1 1 2, TH 0 in 28: 11, count 0.
     ∷ example (Full 6) [] "FU 6\n"
     ∷ example (Full 0) [] "FU 0\n"
     -- "One byte after the last record: 9."

@@ -1,5 +1,5 @@
--- Document 01, section "Cases, marked * where proved", with the traces and the wanted length of document 02, Points 1
--- and 2: the starred cases as entries of one table.
+-- Document 01, section "Cases, marked * where proved", with the traces, the wanted length and the place size of document
+-- 02, Points 1, 2 and 3: the starred cases as entries of one table.
 use Prim.Native.Nat.{ℕ, _-_}
 use mathlib.Core.Path.{_≡_}
 use mathlib.Core.List.{List, [], _∷_, _++_}
@@ -123,32 +123,33 @@ abbrev getting : (bytes : List ℕ) (tableLength : ℕ) (trace : List ℕ) → R
 getting bytes tableLength trace report traceAtExit =
     record { bytes = bytes; tableLength = tableLength; trace = trace; report = report; traceAtExit = traceAtExit }
 
--- "The place size for T = L = 2 is 59", and for T = L = 1 it is 26.
+-- "the cases with lent lengths follow": the place size of document 02, Point 3, is 65 for T = L = 2 and 29 for T = L = 1,
+-- and the counts are those of document 01.
 unfoldable pub cases : List Case
 cases =
-    -- "SB .. 413 lent bytes: NR, count 7." "NR 7 3 2 R 0 0", with its three steps. "412: 11, count 6."
-    getting sb 413 lent (notRobust 7 3 2 Read x 0) (sbSteps ++ 6 ∷ 5 ∷ [])
-    ∷ staying sb 412 lent (Full 6)
-    -- "MP .. 767: RB 13." "766: 11, count 12."
-    ∷ staying mp 767 lent (Robust 13)
-    ∷ staying mp 766 lent (Full 12)
+    -- SB in seven places: "NR 7 3 2 R 0 0", with its three steps. In a byte less: "11, count 6."
+    getting sb 455 lent (notRobust 7 3 2 Read x 0) (sbSteps ++ 6 ∷ 5 ∷ [])
+    ∷ staying sb 454 lent (Full 6)
+    -- "MP needs 845 bytes for RB": "RB 13." In a byte less: "11, count 12."
+    ∷ staying mp 845 lent (Robust 13)
+    ∷ staying mp 844 lent (Full 12)
     -- "2+2W .. NR 8 3 2 W 0 0 with steps 1, 1, 2.": eight places.
-    ∷ getting twoPlusTwoW 472 lent (notRobust 8 3 2 Write x 0) (twoPlusTwoWSteps ++ 6 ∷ 5 ∷ [])
+    ∷ getting twoPlusTwoW 520 lent (notRobust 8 3 2 Write x 0) (twoPlusTwoWSteps ++ 6 ∷ 5 ∷ [])
     -- "Barrier .. RB 7.": seven places
-    ∷ staying barrier 413 lent (Robust 7)
-    -- "PR 1 1 2, TH 0. 26 bytes: RB 1." "25: 11, count 0."
-    ∷ staying nothing 26 lent (Robust 1)
-    ∷ staying nothing 25 lent (Full 0)
+    ∷ staying barrier 455 lent (Robust 7)
+    -- "PR 1 1 2, TH 0." in one place: "RB 1." In a byte less: "11, count 0."
+    ∷ staying nothing 29 lent (Robust 1)
+    ∷ staying nothing 28 lent (Full 0)
     -- "Check 10 then wants four bytes for each step (12 for SB)", "exactly the bytes the trace needs": with a trace of 11
     -- or of none, 10 with 12 wanted. With 12: NR.
-    ∷ staying sb 413 lentEleven (Short 12)
-    ∷ staying sb 413 [] (Short 12)
-    ∷ getting sb 413 lentTwelve (notRobust 7 3 2 Read x 0) sbSteps
+    ∷ staying sb 455 lentEleven (Short 12)
+    ∷ staying sb 455 [] (Short 12)
+    ∷ getting sb 455 lentTwelve (notRobust 7 3 2 Read x 0) sbSteps
     -- "Empty input: 1." "K = 1: 2." "One byte after the last record: 9."
-    ∷ staying [] 413 lent (Refused 1)
-    ∷ staying (header 1 1 1 ++ thread 0) 413 lent (Refused 2)
-    ∷ staying (nothing ++ 0 ∷ []) 413 lent (Refused 9)
+    ∷ staying [] 455 lent (Refused 1)
+    ∷ staying (header 1 1 1 ++ thread 0) 455 lent (Refused 2)
+    ∷ staying (nothing ++ 0 ∷ []) 455 lent (Refused 9)
     -- "op 4 to line n: accepted; to n + 1: 7."
-    ∷ staying (jumping 1) 413 lent (Robust 2)
-    ∷ staying (jumping 2) 413 lent (Refused 7)
+    ∷ staying (jumping 1) 455 lent (Robust 2)
+    ∷ staying (jumping 2) 455 lent (Refused 7)
     ∷ []

@@ -60,12 +60,12 @@ mod tests {
 
     /// A step of each kind with its bytes.
     fn all() -> [([u8; 4], Step); 4] {
-        let step = |kind, value| Step { thread: 8, access: Some(Access { kind, location: 7, value }) };
+        let step = |kind, value| Step { thread: 8, access: Some(Access { kind, location: 15, value }) };
         [
             ([2, 0, 0, 0], Step { thread: 2, access: None }),
-            ([8, 1, 7, 0], step(Kind::Read, 0)),
-            ([8, 2, 7, 15], step(Kind::Write, 15)),
-            ([8, 3, 7, 1], step(Kind::Update, 1)),
+            ([8, 1, 15, 0], step(Kind::Read, 0)),
+            ([8, 2, 15, 14], step(Kind::Write, 14)),
+            ([8, 3, 15, 1], step(Kind::Update, 1)),
         ]
     }
 

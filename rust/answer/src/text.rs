@@ -67,11 +67,11 @@ mod tests {
 
     #[test]
     fn each_step_has_its_line() {
-        let step = |kind| Step { thread: 8, access: Some(Access { kind, location: 7, value: 15 }) };
+        let step = |kind| Step { thread: 8, access: Some(Access { kind, location: 15, value: 14 }) };
         for (step, line) in [
-            (step(Kind::Read), "ST 8 R 7 15"),
-            (step(Kind::Write), "ST 8 W 7 15"),
-            (step(Kind::Update), "ST 8 M 7 15"),
+            (step(Kind::Read), "ST 8 R 15 14"),
+            (step(Kind::Write), "ST 8 W 15 14"),
+            (step(Kind::Update), "ST 8 M 15 14"),
             (Step { thread: 2, access: None }, "ST 2 L 0 0"),
         ] {
             assert_eq!(step.to_string(), line);

@@ -3,7 +3,8 @@
 use std::time::{Duration, Instant};
 
 use answer::{EightNumbers, Report};
-use program::{place_size, read, Program};
+use program::limits::LOCATIONS;
+use program::{encode, place_size, read, Program};
 
 use crate::checkers::Checker;
 use crate::families::{Family, Size};
@@ -24,11 +25,22 @@ pub struct Lent {
 
 impl Lent {
     pub fn new(family: &Family, size: &Size) -> Lent {
-        let bytes = family.program(size);
-        let program = read(&bytes).expect("the assembler writes programs");
+        let program = read(&family.program(size)).expect("the assembler writes programs");
+        Lent::of(program, size.situations)
+    }
+
+    fn of(program: Program, situations: usize) -> Lent {
         let place = place_size(program.threads.len(), program.locations.into());
-        let table = vec![0; place * size.situations];
-        Lent { program, bytes, situations: size.situations, place, table, trace: vec![0; TRACE] }
+        let (bytes, table) = (encode(&program), vec![0; place * situations]);
+        Lent { program, bytes, situations, place, table, trace: vec![0; TRACE] }
+    }
+
+    /// The program at the last of as many locations as there may be, with the longest places of so many threads. It gets
+    /// as many of them, though it may have more situations then.
+    pub fn at_last_locations(&self) -> Lent {
+        let all = *LOCATIONS.end();
+        let moved = self.program.clone().moved(all, |location| all - 1 - location);
+        Lent::of(moved, self.situations)
     }
 
     /// The time of one run, in a table that is cleared, and so is in use already.

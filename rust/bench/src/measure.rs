@@ -67,13 +67,17 @@ fn is_enough(times: &[Duration], size: &Size) -> bool {
 /// In programs of so many situations the index grows.
 const GROWS: usize = 3_000;
 
-/// How many bytes of stack the proved checker uses for the smallest program of a family in which the index grows. By
-/// its machine code the frames have fixed sizes and no function calls itself, so that larger programs need no more.
+/// How many bytes of stack the proved checker uses for the smallest program of a family in which the index grows, also
+/// among as many locations as there may be. By its machine code the frames have fixed sizes and no function calls itself, so that
+/// larger programs need no more.
 pub fn stack(family: &Family) -> usize {
     let size = family.sizes.iter().find(|size| size.situations >= GROWS).expect("families grow");
-    let mut lent = Lent::new(family, size);
+    let lent = Lent::new(family, size);
     let mut index = vec![0; fitting(size)];
-    used(|| {
-        lent.call(proved, &mut index);
-    })
+    let mut stack_of = |mut lent: Lent| {
+        used(|| {
+            lent.call(proved, &mut index);
+        })
+    };
+    stack_of(lent.at_last_locations()).max(stack_of(lent))
 }

@@ -73,7 +73,7 @@ mod tests {
 
     fn measured(situations: usize, plain: u64, proved: u64) -> Measured {
         let [plain, proved] = [plain, proved].map(Duration::from_millis);
-        Measured { situations, place: 26, plain, proved, successors: Successors::default() }
+        Measured { situations, place: 29, plain, proved, successors: Successors::default() }
     }
 
     #[test]

@@ -19,10 +19,10 @@ fn prints_a_line_for_each_program() {
     let printed = String::from_utf8(output.stdout).unwrap();
     let lines: Vec<&str> = printed.lines().collect();
     let fronts = [
-        "| news-2     |         13 |    59 |",
-        "| news-2     |         31 |    59 |",
-        "| news-2     |         82 |    59 |",
-        "| news-3     |         13 |    73 |",
+        "| news-2     |         13 |    65 |",
+        "| news-2     |         31 |    65 |",
+        "| news-2     |         82 |    65 |",
+        "| news-3     |         13 |    80 |",
     ];
     assert_eq!(lines.len(), 14, "{printed}");
     assert!(fronts.iter().zip(&lines[2..]).all(|(front, line)| line.starts_with(front)), "{printed}");

@@ -1,5 +1,6 @@
 //! What would help, in words.
 
+use program::limits::{LINES, LOCATIONS};
 use program::Line;
 
 use crate::change::{fence_location, free_register, Change};
@@ -12,10 +13,12 @@ const VERDICTS: [(Verdict, &str, &str); 6] = [
     (Verdict::Robust, "robust", ""),
     (Verdict::NotRobust, "not robust", ""),
     (Verdict::Undecided, "undecided", ": the table of the quick check was too small"),
-    (Verdict::NoRoom, "not tried", ": the limits of a model leave no room"),
+    (Verdict::NoRoom, "not tried", ": a model has at most 16 locations, and a thread 64 lines"),
     (Verdict::NoLine, "not tried", ": the language has none"),
     (Verdict::Untried, "not tried", ": enough others were"),
 ];
+
+const _: () = assert!(*LOCATIONS.end() == 16 && *LINES.end() == 64, "VERDICTS names these");
 
 impl Explanation {
     /// The changes, each with what the checker says of the model with it, and of equal verdicts the smallest first.

@@ -12,10 +12,10 @@ pub fn disassemble(bytes: &[u8]) -> Result<String, u8> {
     Ok(Text(&read(bytes)?).to_string())
 }
 
-/// The names of the locations, by number. There is no r among them, as registers have it.
-const LOCATION_NAMES: &[&str] =
-    &["x", "y", "z", "w", "v", "u", "t", "s", "q", "p", "o", "n", "m", "l", "k", "j"];
-const _: () = assert!(LOCATION_NAMES.len() >= *LOCATIONS.end() as usize);
+/// The names of the locations, by number. There is no r among them, as registers have it, and no o, l and i, which look
+/// like numbers.
+const LOCATION_NAMES: [&str; *LOCATIONS.end() as usize] =
+    ["x", "y", "z", "w", "v", "u", "t", "s", "q", "p", "n", "m", "k", "j", "h", "g"];
 
 /// A program, shown as a model.
 struct Text<'a>(&'a Program);

@@ -3,7 +3,7 @@
 use std::collections::HashMap;
 use std::fmt;
 
-use program::limits::REGISTERS;
+use program::limits::{LOCATIONS, REGISTERS};
 
 use crate::lexer::{Piece, Token};
 use crate::mistake::Mistake;
@@ -121,9 +121,9 @@ impl<'a> Names<'a> {
     }
 }
 
-/// A thing that the text may name, with such names in brackets. The list ends where it gets long.
+/// A thing that the text may name, with such names in brackets. All locations are shown; a longer list is cut.
 pub fn with_names(thing: &str, names: &[&str]) -> String {
-    const SHOWN: usize = 12;
+    const SHOWN: usize = *LOCATIONS.end() as usize;
     let mut shown: Vec<_> = names.iter().take(SHOWN).map(|name| shortened(name)).collect();
     if names.len() > SHOWN {
         shown.push("..".into());

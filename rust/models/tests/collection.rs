@@ -67,6 +67,19 @@ fn the_litmus_programs_of_the_source_expect_what_it_says() {
     }
 }
 
+/// Document 02, Point 3: "The page queue model has eleven."
+#[test]
+fn the_page_ring_uses_eleven_locations() {
+    for (name, expected) in [("page-ring", Verdict::Robust), ("page-ring-sc", Verdict::NotRobust)] {
+        let model = collection::named(name).unwrap();
+        let program = read(&model.bytes).unwrap();
+        let lines = program.threads.iter().flatten();
+        let used: BTreeSet<u8> = lines.filter_map(|line| line.location()).collect();
+        assert_eq!((program.locations, model.expected), (11, expected), "{name}");
+        assert_eq!(used, (0..11).collect(), "{name}");
+    }
+}
+
 #[test]
 fn the_cases_of_document_01_have_its_bytes() {
     assert_eq!(bytes_of("empty-thread"), b"PR\x01\x01\x02TH\x00");

@@ -147,8 +147,10 @@ fn refused_bytes_get_the_check_that_failed_in_words_and_leave_no_output() {
     let first = message("1 failed, the input must start with a whole PR record");
     bad(&run(test, &["--dis"], b""), 1, &first);
     bad(&run(test, &["--dis"], SB.as_bytes()), 1, &first);
-    let second = message("2 failed, T must be 1 to 8, L 1 to 8 and K 2 to 16");
-    bad(&run(test, &["--dis"], b"PR\x01\x01\x01TH\x00"), 1, &second);
+    let second = message("2 failed, T must be 1 to 8, L 1 to 16 and K 2 to 16");
+    for bytes in [b"PR\x01\x01\x01TH\x00", b"PR\x01\x00\x02TH\x00", b"PR\x01\x11\x02TH\x00"] {
+        bad(&run(test, &["--dis"], bytes), 1, &second);
+    }
     let last = message("9 failed, the input must end after the last record");
     bad(&run(test, &["--dis", "-o", "never"], &[SB_BYTES, b"\n"].concat()), 1, &last);
     assert!(!directory(test).join("never").exists());

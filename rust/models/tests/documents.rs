@@ -124,14 +124,14 @@ fn the_lines_beside_c11_are_lines() {
 }
 
 #[test]
-fn the_sizes_of_places_are_those_of_document_01() {
+fn the_sizes_of_places_are_those_of_the_formula() {
     let text = document("docs/MODELLING.md");
     let numbers = |row: &str| {
         let cells = row.trim_matches('|').split('|');
         cells.map(|cell| cell.trim().parse::<usize>().ok()).collect::<Option<Vec<_>>>()
     };
     let rows: Vec<_> = text.lines().filter_map(numbers).filter(|row| row.len() == 4).collect();
-    assert_eq!(rows.len(), 6);
+    assert_eq!(rows.len(), 7);
     for row in rows {
         let [threads, locations, size, places] = row[..] else { unreachable!() };
         assert_eq!(size, place_size(threads, locations));

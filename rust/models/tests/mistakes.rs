@@ -55,7 +55,7 @@ fn values_are_2_to_16() {
 }
 
 #[test]
-fn locations_are_1_to_8_new_names() {
+fn locations_are_1_to_16_new_names() {
     let header = |locations: &str| format!("values 2\nlocations{locations}\nthread\n");
     expect(&header(""), "2:10: expected a name for a location, found the end of the line");
     expect(&header(" 7"), "2:11: expected a name for a location, found '7'");
@@ -67,7 +67,11 @@ fn locations_are_1_to_8_new_names() {
     expect(&header(" x goto"), "2:13: expected a name for a location, found 'goto', a word of the language");
     expect(&header(" x r0"), "2:13: expected a name for a location, found 'r0', kept for registers");
     expect(&header(" r17"), "2:11: expected a name for a location, found 'r17', kept for registers");
-    expect(&header(" a b c d e f g h i"), "2:27: expected the end of the line after 8 locations, found 'i'");
+    let most = " a b c d e f g h i j k l m n o p";
+    assert!(assemble(header(most).as_bytes()).is_ok());
+    let message = "2:43: expected the end of the line after 16 locations, found 'q'";
+    expect(&header(&format!("{most} q")), message);
+    expect(&header(&format!("{most} a")), &message.replace("'q'", "'a'"));
     assert!(assemble(header(" r rx r_0 If").as_bytes()).is_ok());
 }
 
@@ -174,11 +178,21 @@ fn jumps_and_labels() {
 
 #[test]
 fn a_long_list_of_labels_is_cut() {
-    let labels: Vec<_> = (0..13).map(|number| format!("L{number}")).collect();
-    let shown = format!("({}, ..)", labels[..12].join(", "));
+    let labels: Vec<_> = (0..17).map(|number| format!("L{number}")).collect();
+    let shown = format!("({}, ..)", labels[..16].join(", "));
     let line = format!("{}: goto end", labels.join(": "));
     let column = line.chars().count() - 2;
     expect_line(&line, &format!("4:{column}: expected a label of this thread {shown}, found 'end'"));
+}
+
+#[test]
+fn a_list_of_all_locations_is_whole() {
+    let names = "a b c d e f g h i j k l m n o p";
+    let shown = names.replace(' ', ", ");
+    expect(
+        &format!("values 2\nlocations {names}\nthread\nwait(q = 1)\n"),
+        &format!("4:6: expected a location ({shown}), found 'q'"),
+    );
 }
 
 #[test]
@@ -213,6 +227,6 @@ fn a_text_of_nothing_but_labels_is_read_at_once() {
     assert!(labels.len() > LONGEST_INPUT / 2);
     assert!(assemble(format!("values 2\nlocations x\nthread\n{labels}\n goto L119999").as_bytes()).is_ok());
     let text = format!("values 2\nlocations x\nthread\n{labels}\n goto M119999");
-    assert!(message(&text).ends_with("L11, ..), found 'M119999'"));
+    assert!(message(&text).ends_with("L15, ..), found 'M119999'"));
     assert!(start.elapsed() < Duration::from_secs(10));
 }

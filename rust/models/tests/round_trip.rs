@@ -61,7 +61,7 @@ fn damaged_bytes_go_round_or_get_the_number_of_the_reader() {
 fn the_text_of_a_program_is_laid_out_as_a_model() {
     let text = "\
 values 5
-locations x y z w v u t s
+locations x y z w v u t s q p n m k j h g
 thread
 L0:
   r0 := r1 + 4
@@ -78,6 +78,17 @@ L6:
   wait(v = 1)
   BCAS(s, r0 -> 1)
 L12:
+thread
+  u := 1
+  t := 1
+  q := 1
+  p := 1
+  n := 1
+  m := 1
+  k := 1
+  j := 1
+  h := 1
+  g := r0
 thread
 thread
   if r0 goto L1

@@ -46,7 +46,7 @@ pub use program::place_size;
 ///
 /// Any bytes and any lengths will do, 0 too: what is no program is [refused](Report::Refused), and memory that does not
 /// suffice is [reported](Report::Full) [as such](Report::Short). The table has as many places as fit into it whole, at
-/// most 1,000,000,000; for a program of T threads and L locations a place has 9 + T × (6 + 4L) + L × (3 + 4L) bytes. A
+/// most 1,000,000,000; for a program of T threads and L locations a place has [`place_size`] bytes, at most 1,681. A
 /// trace of [`Step::BYTES`] bytes for each place is never too short.
 ///
 /// Each situation is compared with all before it, so that the time grows with the square of their number:

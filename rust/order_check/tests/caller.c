@@ -31,8 +31,8 @@ static const uint8_t local_sb[] = {
 /* One thread without lines, and one location. */
 static const uint8_t empty_thread[] = {'P', 'R', 1, 1, 2, 'T', 'H', 0};
 
-/* Seven places of two threads and two locations have 413 bytes, and three steps have the bytes of a trace but one. */
-static uint8_t table[413];
+/* Seven places of two threads and two locations have 455 bytes, and three steps have the bytes of a trace but one. */
+static uint8_t table[455];
 static uint8_t trace[3 * ORDER_STEP_BYTES + 1];
 static uint64_t slots[15];
 
@@ -127,15 +127,15 @@ int main(void)
     const uint8_t steps[] = {1, ORDER_WRITE, 0, 1, 1, ORDER_READ, 1, 0, 2, ORDER_WRITE, 1, 1, 9};
     const uint8_t unchanged[] = {9, 9, 9, 9, 9, 9, 9, 9, 9, 9, 9, 9, 9};
 
-    if (ORDER_PLACE_SIZE(1, 1) != 26 || ORDER_PLACE_SIZE(2, 1 + 1) != 59 || ORDER_PLACE_SIZE(8, 8) != 593) {
+    if (ORDER_PLACE_SIZE(1, 1) != 29 || ORDER_PLACE_SIZE(2, 1 + 1) != 65 || ORDER_PLACE_SIZE(8, 16) != 1681) {
         failures++;
         printf("ORDER_PLACE_SIZE is wrong\n");
     }
-    expect("SB", sb, sizeof sb, 413, sizeof trace, not_robust);
+    expect("SB", sb, sizeof sb, 455, sizeof trace, not_robust);
     expect_trace("SB", steps);
-    expect("SB in a shorter table", sb, sizeof sb, 412, sizeof trace, full);
+    expect("SB in a shorter table", sb, sizeof sb, 454, sizeof trace, full);
     expect_trace("SB in a shorter table", unchanged);
-    expect("an empty thread", empty_thread, sizeof empty_thread, 26, 0, robust);
+    expect("an empty thread", empty_thread, sizeof empty_thread, 29, 0, robust);
     expect("an empty thread and nothing lent", empty_thread, sizeof empty_thread, 0, 0, no_place);
     expect("no bytes", sb, 0, 0, 0, no_program);
 
@@ -144,9 +144,9 @@ int main(void)
 
     /* A trace that is too short by a byte, then one of the length that is wanted, in bytes. */
     const uint64_t short_trace[] = {ORDER_REFUSED, ORDER_TRACE_SHORT, 0, 3 * ORDER_STEP_BYTES, 0, 0, 0, 0};
-    expect("SB with a short trace", sb, sizeof sb, 413, 3 * ORDER_STEP_BYTES - 1, short_trace);
+    expect("SB with a short trace", sb, sizeof sb, 455, 3 * ORDER_STEP_BYTES - 1, short_trace);
     expect_trace("SB with a short trace", unchanged);
-    expect("SB with the wanted trace", sb, sizeof sb, 413, (size_t)short_trace[ORDER_STEPS], not_robust);
+    expect("SB with the wanted trace", sb, sizeof sb, 455, (size_t)short_trace[ORDER_STEPS], not_robust);
     expect_trace("SB with the wanted trace", steps);
     return failures == 0 ? 0 : 1;
 }

@@ -15,27 +15,27 @@ fn readers(lines: u8) -> Vec<u8> {
 
 #[test]
 fn a_run_comes_with_its_steps() {
-    let checked = check_in(SB, Lent::with_table(SB, 413)).unwrap();
+    let checked = check_in(SB, Lent::with_table(SB, 455)).unwrap();
     let stale = Report::NotRobust { count: 7, steps: 3, thread: 2, kind: Kind::Read, location: 0, value: 0 };
     assert_eq!(checked.report, stale);
     let lines: Vec<String> = checked.steps.iter().map(|step| step.to_string()).collect();
     assert_eq!(lines, ["ST 1 W 0 1", "ST 1 R 1 0", "ST 2 W 1 1"]);
     // Seven places with two slots of eight bytes each.
-    assert_eq!(checked.lent, Lent { table: 413, index: 112 });
+    assert_eq!(checked.lent, Lent { table: 455, index: 112 });
     assert_eq!(check_growing(SB, usize::MAX).unwrap().report, stale);
 }
 
 #[test]
 fn the_memory_grows_up_to_the_limit() {
     let place = place_size(2, 2);
-    assert_eq!(place, 59);
+    assert_eq!(place, 65);
     let lengths = |limit| tables(SB, limit).map(|lent| lent.table).collect::<Vec<_>>();
-    // With its index a place has 75 bytes.
-    assert_eq!(lengths(74), [0]);
-    assert_eq!(lengths(75), [59]);
-    assert_eq!(lengths(62_474), [49_088]);
-    assert_eq!(lengths(62_475), [49_147]);
-    assert_eq!(lengths(1_000_000), [49_152, 393_216, 786_647]);
+    // With its index a place has 81 bytes.
+    assert_eq!(lengths(80), [0]);
+    assert_eq!(lengths(81), [65]);
+    assert_eq!(lengths(61_235), [49_075]);
+    assert_eq!(lengths(61_236), [49_140]);
+    assert_eq!(lengths(1_000_000), [49_152, 393_216, 802_425]);
     for limit in [0, 1_000, 100_000, 10_000_000, 1 << 30] {
         let all: Vec<Lent> = tables(SB, limit).collect();
         let last = *all.last().unwrap();
@@ -47,12 +47,12 @@ fn the_memory_grows_up_to_the_limit() {
 
 #[test]
 fn it_goes_on_until_a_table_decides() {
-    // 16 to the power of four situations, in places of 56 bytes.
+    // 16 to the power of four situations, in places of 62 bytes.
     let program = readers(15);
     let checked = check_growing(&program, 1 << 30).unwrap();
     assert_eq!(checked.report, Report::Robust { count: 65_536 });
     assert_eq!(checked.lent.table, 49_152 * 8 * 8 * 8);
-    let just = 65_536 * (56 + 16);
+    let just = 65_536 * (62 + 16);
     assert_eq!(check_growing(&program, just).unwrap().report, Report::Robust { count: 65_536 });
     assert_eq!(check_growing(&program, just - 1).unwrap().report, Report::Full { count: 65_535 });
 }

@@ -1,9 +1,10 @@
 //! The execution graph as a picture, in SVG.
 //!
 //! Each thread has a column, and each event a row of its own, in the order of the steps: time runs downward. The
-//! starting writes stand above. As no other box stands in its row, an edge leaves its box along the row, goes up or
-//! down in a gutter between two columns, and comes to its other box along that one's row: it meets no box in between.
-//! Lines that would lie on one another have lanes side by side.
+//! starting writes stand above, side by side, or, where that would be too wide, as stairs that lead down to the right.
+//! As no other box stands in its row, an edge leaves its box along the row, goes up or down in a gutter between two
+//! columns, and comes to its other box along that one's row: it meets no box in between. Lines that would lie on one
+//! another have lanes side by side.
 
 mod boxes;
 mod frame;
@@ -23,7 +24,7 @@ use crate::drawn::{drawn, Drawn};
 use crate::words::Words;
 use crate::Graph;
 
-use boxes::{boxes, GAP, STARTS_END};
+use boxes::{boxes, starts_end, GAP};
 use frame::Frame;
 use ports::Ports;
 use trunks::trunks;
@@ -66,7 +67,7 @@ impl<'a> Picture<'a> {
         let is_long = drawing.events().len() - drawing.starts() > MANY_ROWS;
         let bottom = boxes.iter().map(Rect::bottom).max().unwrap_or(0);
         let height = bottom + if is_long { 3 * GAP } else { 3 * GAP / 2 };
-        let columns = frame.columns(STARTS_END + turns.height, height);
+        let columns = frame.columns(starts_end(&frame) + turns.height, height);
         Picture { cycle: graph.cycle, boxes, wires, columns, width: frame.width, height, is_long, drawing }
     }
 }

@@ -107,7 +107,7 @@ fn is_shown(browser: &Path, reported: &Reported) {
 #[test]
 fn a_browser_shows_verdict_and_events_without_a_word_on_its_console() {
     let Some(browser) = browser() else { return };
-    for name in ["sb", "2+2w", "peterson-sc", "iriw", "long-run", "crowd"] {
+    for name in ["sb", "2+2w", "peterson-sc", "iriw", "long-run", "crowd", "page-ring-sc", "sixteen"] {
         is_shown(&browser, named(&format!("{name}.order")));
     }
     is_shown(&browser, models().iter().find(|model| model.execution.is_none()).unwrap());

@@ -14,8 +14,18 @@ pub const LINES: usize = 9;
 /// Registers of a thread.
 pub const REGISTERS: usize = 4;
 
-/// Bytes of a set of values.
+/// Bytes of a set, of locations or of values.
 pub const SET: usize = 2;
+
+/// The set that starts at a byte of a place.
+pub fn set(place: &[u8], at: usize) -> u16 {
+    u16::from_le_bytes([place[at], place[at + 1]])
+}
+
+/// Puts a set to where it starts.
+pub fn put(place: &mut [u8], at: usize, set: u16) {
+    place[at..][..SET].copy_from_slice(&set.to_le_bytes());
+}
 
 /// The places of a program: for each part the byte at which it starts.
 ///
@@ -44,9 +54,9 @@ impl Layout {
         let registers = LINES + threads;
         let values = registers + REGISTERS * threads;
         let known_to_thread = values + locations;
-        let known_to_newest = known_to_thread + threads;
-        let known_to_access = known_to_newest + locations;
-        let readable_by_thread = known_to_access + locations;
+        let known_to_newest = known_to_thread + SET * threads;
+        let known_to_access = known_to_newest + SET * locations;
+        let readable_by_thread = known_to_access + SET * locations;
         let readable_by_newest = readable_by_thread + row * threads;
         let writable_by_thread = readable_by_newest + row * locations;
         let writable_by_newest = writable_by_thread + row * threads;
@@ -74,11 +84,13 @@ impl Layout {
     /// Puts the situation in which every run starts into a place of zeros: each thread knows all starting writes, each
     /// of which knows itself, and nothing is stale.
     pub fn start(&self, place: &mut [u8]) {
-        let all = u8::MAX >> (8 - self.locations);
-        place[self.known_to_thread..self.known_to_newest].fill(all);
+        let all = u16::MAX >> (16 - self.locations);
+        for t in 0..self.threads {
+            put(place, self.known_to_thread + SET * t, all);
+        }
         for x in 0..self.locations {
-            place[self.known_to_newest + x] = 1 << x;
-            place[self.known_to_access + x] = 1 << x;
+            put(place, self.known_to_newest + SET * x, 1 << x);
+            put(place, self.known_to_access + SET * x, 1 << x);
         }
     }
 }
@@ -91,7 +103,7 @@ mod tests {
     #[test]
     fn the_last_row_ends_the_place() {
         for threads in 1..=8 {
-            for locations in 1..=8 {
+            for locations in 1..=16 {
                 let layout =
                     Layout::of(&Program { threads: vec![Vec::new(); threads], locations, values: 2 });
                 assert_eq!(layout.writable_by_newest + layout.row() * layout.locations, layout.size);

@@ -39,7 +39,8 @@ mod tests {
 
     #[test]
     fn is_the_one_of_document_01() {
-        let bytes: Vec<u8> = (0..600u32).map(|at| (at * at * 31 + 7) as u8).collect();
+        // The largest situation has 1,672 bytes.
+        let bytes: Vec<u8> = (0..1_700u32).map(|at| (at * at * 31 + 7) as u8).collect();
         for length in 0..bytes.len() {
             assert_eq!(fingerprint(&bytes[..length]), bytes[..length].iter().fold(0, mixed));
         }

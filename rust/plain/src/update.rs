@@ -1,13 +1,14 @@
 //! What an access changes of a situation: the update rules of `crates/rules/specs/Update.antt`, on the bytes of a place.
 
-use crate::layout::{Layout, SET};
+use crate::layout::{put, set, Layout, SET};
 
 impl Layout {
     /// Thread t reads x: it learns what the newest write knows, and can still read what both could.
     pub fn read(&self, place: &mut [u8], t: usize, x: usize) {
-        let known = place[self.known_to_thread + t] | place[self.known_to_newest + x];
-        place[self.known_to_thread + t] = known;
-        place[self.known_to_access + x] |= known;
+        let (thread, access) = (self.known_to_thread + SET * t, self.known_to_access + SET * x);
+        let known = set(place, thread) | set(place, self.known_to_newest + SET * x);
+        put(place, thread, known);
+        put(place, access, set(place, access) | known);
         self.see(place, t, x);
     }
 
@@ -65,10 +66,12 @@ impl Layout {
 
     /// Only thread t knows its write to x, and what it knows is known to that write.
     fn make_known(&self, place: &mut [u8], t: usize, x: usize) {
-        let known = place[self.known_to_thread + t] | place[self.known_to_access + x] | 1 << x;
-        place[self.known_to_thread..self.readable_by_thread].iter_mut().for_each(|set| *set &= !(1 << x));
-        place[self.known_to_thread + t] = known;
-        place[self.known_to_newest + x] = known;
-        place[self.known_to_access + x] = known;
+        let (thread, access) = (self.known_to_thread + SET * t, self.known_to_access + SET * x);
+        let known = set(place, thread) | set(place, access) | 1 << x;
+        let sets = &mut place[self.known_to_thread..self.readable_by_thread];
+        sets.chunks_exact_mut(SET).for_each(|set| set[x / 8] &= !(1 << (x % 8)));
+        put(place, thread, known);
+        put(place, self.known_to_newest + SET * x, known);
+        put(place, access, known);
     }
 }

@@ -3,7 +3,7 @@
 use answer::Kind;
 use program::Line;
 
-use crate::layout::SET;
+use crate::layout::{set, SET};
 use crate::step::Stepper;
 
 /// An access that may use a stale write.
@@ -36,14 +36,13 @@ impl Stepper<'_> {
 
     fn witness_of(&self, place: &[u8], t: usize) -> Option<Witness> {
         let Allowed { location, read, follow, kind } = self.allowed(place, t, self.line(place, t)?)?;
-        if place[self.layout.known_to_thread + t] >> location & 1 == 0 {
+        if set(place, self.layout.known_to_thread + SET * t) >> location & 1 == 0 {
             return None;
         }
         let location = usize::from(location);
         let entry = t * self.layout.row() + SET * location;
-        let set = |at: usize| u16::from_le_bytes([place[at], place[at + 1]]);
-        let reads = set(self.layout.readable_by_thread + entry) & read;
-        let follows = set(self.layout.writable_by_thread + entry) & follow;
+        let reads = set(place, self.layout.readable_by_thread + entry) & read;
+        let follows = set(place, self.layout.writable_by_thread + entry) & follow;
         let stale = reads | follows;
         if stale == 0 {
             return None;

@@ -1,4 +1,4 @@
-//! The plain checker on the cases of document 01 and on the models. `rust/compare` holds it to every byte.
+//! The plain checker on the cases of document 01, with the lent lengths of document 02, and on the models. `rust/compare` holds it to every byte.
 #![forbid(unsafe_code)]
 
 use answer::{steps_in, Kind, Report, Step};
@@ -24,15 +24,18 @@ fn of_document_01() {
         |count, kind| Report::NotRobust { count, steps: 3, thread: 2, kind, location: 0, value: 0 };
     for more in 0..4 {
         let trace = [of_sb.as_slice(), &vec![9; more]].concat();
-        assert_eq!(answer(&sb, 413, 12 + more), (not_robust(7, Kind::Read), trace));
+        assert_eq!(answer(&sb, 455, 12 + more), (not_robust(7, Kind::Read), trace));
     }
-    assert_eq!(answer(&sb, 412, 12), (Report::Full { count: 6 }, vec![9; 12]));
+    assert_eq!(answer(&sb, 454, 12), (Report::Full { count: 6 }, vec![9; 12]));
     for short in 0..12 {
-        assert_eq!(answer(&sb, 413, short), (Report::Short { wanted: 12 }, vec![9; short]));
+        assert_eq!(answer(&sb, 455, short), (Report::Short { wanted: 12 }, vec![9; short]));
     }
-    assert_eq!(answer(&model("mp"), 767, 1), (Report::Robust { count: 13 }, vec![9]));
-    assert_eq!(answer(&model("2+2w"), 49_152, 12), (not_robust(8, Kind::Write), of_2_2w.to_vec()));
-    assert_eq!(answer(b"PR\x01\x01\x02TH\x00", 25, 0).0, Report::Full { count: 0 });
+    assert_eq!(answer(&model("mp"), 845, 1), (Report::Robust { count: 13 }, vec![9]));
+    assert_eq!(answer(&model("mp"), 844, 1), (Report::Full { count: 12 }, vec![9]));
+    assert_eq!(answer(&model("2+2w"), 520, 12), (not_robust(8, Kind::Write), of_2_2w.to_vec()));
+    assert_eq!(answer(&model("barrier"), 455, 0).0, Report::Robust { count: 7 });
+    assert_eq!(answer(b"PR\x01\x01\x02TH\x00", 29, 0).0, Report::Robust { count: 1 });
+    assert_eq!(answer(b"PR\x01\x01\x02TH\x00", 28, 0).0, Report::Full { count: 0 });
     assert_eq!(answer(b"", 500, 3), (Report::Refused { number: 1 }, vec![9; 3]));
 }
 

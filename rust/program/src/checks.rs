@@ -4,7 +4,7 @@
 pub fn what_check_asks(number: u8) -> &'static str {
     match number {
         1 => "the input must start with a whole PR record",
-        2 => "T must be 1 to 8, L 1 to 8 and K 2 to 16",
+        2 => "T must be 1 to 8, L 1 to 16 and K 2 to 16",
         3 => "the record that is due must stand there, whole and with its mark",
         4 => "a thread must have at most 64 lines",
         5 => "the op must be 1 to 10",

@@ -37,10 +37,23 @@ pub enum Line {
     Bcas { location: u8, a: Operand, b: Operand },
 }
 
+impl Program {
+    /// The same program among so many locations, of which each line gets the one that its own goes to.
+    pub fn moved(mut self, locations: u8, to: impl Fn(u8) -> u8) -> Program {
+        let lines = self.threads.iter_mut().flatten();
+        lines.filter_map(Line::location_mut).for_each(|location| *location = to(*location));
+        Program { locations, ..self }
+    }
+}
+
 impl Line {
     /// The location of the access that the line makes, if it does.
-    pub fn location(&self) -> Option<u8> {
-        match *self {
+    pub fn location(mut self) -> Option<u8> {
+        self.location_mut().copied()
+    }
+
+    fn location_mut(&mut self) -> Option<&mut u8> {
+        match self {
             Line::Write { location, .. }
             | Line::Read { location, .. }
             | Line::Fadd { location, .. }

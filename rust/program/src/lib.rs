@@ -1,4 +1,4 @@
-//! The words of document 01 that all crates share: programs as data and as bytes, their limits, and the sizes of their
+//! The words of the documents that all crates share: programs as data and as bytes, their limits, and the sizes of their
 //! places. The reader was written from document 01 alone, apart from the proved one that it is compared with.
 #![forbid(unsafe_code)]
 

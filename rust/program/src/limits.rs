@@ -1,12 +1,12 @@
-//! The limits of document 01, section "Program bytes", each in one place.
+//! The limits of document 01, section "Program bytes", and document 02, Point 3, each in one place.
 
 use std::ops::RangeInclusive;
 
 /// T: "threads 1 to 8".
 pub const THREADS: RangeInclusive<u8> = 1..=8;
 
-/// L: "locations 1 to 8".
-pub const LOCATIONS: RangeInclusive<u8> = 1..=8;
+/// L: "L may be 1 to 16" (document 02, Point 3).
+pub const LOCATIONS: RangeInclusive<u8> = 1..=16;
 
 /// K: "values 0 to K−1 with K from 2 to 16".
 pub const VALUES: RangeInclusive<u8> = 2..=16;

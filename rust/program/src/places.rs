@@ -1,8 +1,8 @@
-//! The places of a lent table: document 01, section "Table".
+//! The places of a lent table: document 01, section "Table", and document 02, Point 3.
 
-/// "A place has 9 + T × (6 + 4L) + L × (3 + 4L) bytes".
+/// "A place has 9 + T × (7 + 4L) + L × (5 + 4L) bytes".
 pub const fn place_size(threads: usize, locations: usize) -> usize {
-    9 + threads * (6 + 4 * locations) + locations * (3 + 4 * locations)
+    9 + threads * (7 + 4 * locations) + locations * (5 + 4 * locations)
 }
 
 /// "N, the places available, is the lent length divided by the place size, at most 1,000,000,000."

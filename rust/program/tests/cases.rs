@@ -29,6 +29,14 @@ fn a_thread_without_lines_is_accepted() {
 }
 
 #[test]
+fn of_sixteen_locations_the_last_is_15() {
+    let bytes = |target| [b"PR\x01\x10\x02TH\x01IN\x05\x00".as_slice(), &[target], b"\x01\x00"].concat();
+    let line = Line::Write { location: 15, a: Constant(1) };
+    assert_eq!(read(&bytes(15)), Ok(Program { threads: vec![vec![line]], locations: 16, values: 2 }));
+    assert_eq!(read(&bytes(16)), Err(7));
+}
+
+#[test]
 fn the_empty_input_is_1() {
     assert_eq!(read(b""), Err(1));
 }

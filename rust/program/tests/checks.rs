@@ -61,7 +61,7 @@ fn check_2_has_the_limits_of_the_header() {
         let threads = [b"PR".as_slice(), &[byte, 1, 2], &b"TH\x00".repeat(byte.into())].concat();
         assert_eq!(answer(&threads), if (1..=8).contains(&byte) { 0 } else { 2 }, "T = {byte}");
         let locations = [b"PR\x01", [byte, 2].as_slice(), b"TH\x00"].concat();
-        assert_eq!(answer(&locations), if (1..=8).contains(&byte) { 0 } else { 2 }, "L = {byte}");
+        assert_eq!(answer(&locations), if (1..=16).contains(&byte) { 0 } else { 2 }, "L = {byte}");
         let values = [b"PR\x01\x01", [byte].as_slice(), b"TH\x00"].concat();
         assert_eq!(answer(&values), if (2..=16).contains(&byte) { 0 } else { 2 }, "K = {byte}");
     }
@@ -130,6 +130,28 @@ fn checks_6_to_8_test_each_field_of_each_op() {
                     _ => 6,
                 };
                 assert_eq!(answer(&line(changed)), expected, "{changed:?}");
+            }
+        }
+    }
+}
+
+#[test]
+fn check_7_allows_every_location_and_no_other() {
+    for (fields, used) in OPS {
+        // The target of op 4 is a line.
+        if used[1] == 0 || fields[0] == 4 {
+            continue;
+        }
+        for locations in 1..=16 {
+            for target in 0..=255 {
+                let mut changed = fields;
+                changed[2] = target;
+                let bytes = [b"PR\x01".as_slice(), &[locations, 2], b"TH\x01IN", &changed].concat();
+                assert_eq!(
+                    answer(&bytes),
+                    if target < locations { 0 } else { 7 },
+                    "{changed:?}, L = {locations}"
+                );
             }
         }
     }

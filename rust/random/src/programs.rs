@@ -99,6 +99,17 @@ pub fn program(numbers: &mut Numbers, shape: &Shape) -> Program {
     Program { threads, locations, values }
 }
 
+/// The program among more than eight locations, of which a set takes two bytes, with those of its lines at any of them.
+pub fn scattered(numbers: &mut Numbers, program: Program) -> Program {
+    let locations = numbers.within(&(9.max(program.locations)..=*LOCATIONS.end()));
+    let mut places: Vec<u8> = (0..locations).collect();
+    for location in 0..usize::from(program.locations) {
+        let place = location + numbers.below(places.len() - location);
+        places.swap(location, place);
+    }
+    program.moved(locations, |location| places[usize::from(location)])
+}
+
 /// A line of a thread of n lines.
 fn line(numbers: &mut Numbers, ops: &[u8], n: u8, locations: u8, values: u8) -> Line {
     let reg = numbers.within(&(0..=REGISTERS - 1));

@@ -6,7 +6,7 @@ use std::mem::discriminant;
 
 use program::limits::{LINES, LOCATIONS, REGISTERS, THREADS, VALUES};
 use program::{Line, Operand, Program};
-use random::{damage, noise, program, Numbers, Shape};
+use random::{damage, noise, program, scattered, Numbers, Shape};
 
 fn programs(seed: u64, count: usize, shape: &Shape) -> Vec<Program> {
     let mut numbers = Numbers::new(seed);
@@ -73,6 +73,31 @@ fn small_programs_are_small() {
         assert!((2..=3).contains(&program.values));
         assert!(program.threads.iter().all(|thread| thread.len() <= 4));
     }
+}
+
+#[test]
+fn scattered_programs_use_as_many_of_more_locations() {
+    let mut numbers = Numbers::new(9);
+    let used = |program: &Program| {
+        let lines = program.threads.iter().flatten();
+        lines.filter_map(|line| line.location()).collect::<Vec<_>>()
+    };
+    let mut met = HashSet::new();
+    for shape in [Shape::litmus(), Shape::wide()] {
+        for _ in 0..500 {
+            let drawn = program(&mut numbers, &shape);
+            let moved = scattered(&mut numbers, drawn.clone());
+            assert!((9..=16).contains(&moved.locations) && moved.locations >= drawn.locations);
+            let pairs: HashSet<(u8, u8)> = used(&drawn).into_iter().zip(used(&moved)).collect();
+            let [from, to]: [HashSet<u8>; 2] =
+                [pairs.iter().map(|pair| pair.0).collect(), pairs.iter().map(|pair| pair.1).collect()];
+            assert_eq!((from.len(), to.len()), (pairs.len(), pairs.len()), "{pairs:?}");
+            assert!(to.iter().all(|&location| location < moved.locations));
+            met.extend(pairs);
+        }
+    }
+    // Each of the first two goes to each of the sixteen.
+    assert!((0..2).all(|from| (0..16).all(|to| met.contains(&(from, to)))), "{met:?}");
 }
 
 #[test]

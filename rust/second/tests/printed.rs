@@ -53,19 +53,19 @@ fn a_read_modify_write_prints_as_m() {
 
 #[test]
 fn the_table_of_49152_bytes_can_be_full() {
-    // Eight threads of three local lines have 4^8 situations, and T = 8, L = 1 gives 49,152 / 96 places.
+    // Eight threads of three local lines have 4^8 situations, and T = 8, L = 1 gives 49,152 / 106 places.
     let thread = [b"TH\x03".as_slice(), &b"IN\x01\x00\x00\x00\x00".repeat(3)].concat();
-    prints(&[], &[b"PR\x08\x01\x02".as_slice(), &thread.repeat(8)].concat(), "FU 512\n");
+    prints(&[], &[b"PR\x08\x01\x02".as_slice(), &thread.repeat(8)].concat(), "FU 463\n");
 }
 
 #[test]
 fn other_lengths_are_arguments() {
-    prints(&["413"], SB, SB_PRINTED);
-    prints(&["412"], SB, "FU 6\n");
-    prints(&["413", "12"], SB, SB_PRINTED);
-    prints(&["413", "11"], SB, "NO 10\n");
-    prints(&["413", "3"], SB, "NO 10\n");
-    for arguments in [&["413", "12", "1"][..], &["many"], &["-1"]] {
+    prints(&["455"], SB, SB_PRINTED);
+    prints(&["454"], SB, "FU 6\n");
+    prints(&["455", "12"], SB, SB_PRINTED);
+    prints(&["455", "11"], SB, "NO 10\n");
+    prints(&["455", "3"], SB, "NO 10\n");
+    for arguments in [&["455", "12", "1"][..], &["many"], &["-1"]] {
         let output = run(arguments, SB);
         assert_eq!(output.status.code(), Some(2));
         assert_eq!(output.stdout, b"");

@@ -14,14 +14,20 @@ fn after(program: &Program, schedule: &[usize]) -> Situation {
     Situation::of(&schedule.iter().fold(State::start(program), step))
 }
 
-/// A row of sets for x and y, the same with and without writes that a read-modify-write follows.
+/// A row of sets for x and y, and none for locations that are not there.
+fn row([x, y]: [u16; 2]) -> [u16; 16] {
+    let mut row = [0; 16];
+    row[..2].copy_from_slice(&[x, y]);
+    row
+}
+
 fn thread(line: u8, seen: u16, readable: [u16; 2], writable: [u16; 2]) -> ThreadPart {
-    let [readable, writable] = [readable, writable].map(|[x, y]| [x, y, 0, 0, 0, 0, 0, 0]);
+    let [readable, writable] = [readable, writable].map(row);
     ThreadPart { line, registers: [0; 4], seen, readable, writable }
 }
 
 fn location(value: u8, seen: [u16; 2], readable: [u16; 2], writable: [u16; 2]) -> LocationPart {
-    let [readable, writable] = [readable, writable].map(|[x, y]| [x, y, 0, 0, 0, 0, 0, 0]);
+    let [readable, writable] = [readable, writable].map(row);
     LocationPart { value, seen_by_newest: seen[0], seen_by_any: seen[1], readable, writable }
 }
 
@@ -67,6 +73,28 @@ fn sb_before_its_witness() {
         ],
     };
     assert_eq!(after(&read(SB).unwrap(), &[1, 1, 2]), expected);
+}
+
+#[test]
+fn sb_on_locations_9_and_15_of_sixteen_before_its_witness() {
+    let moved = read(SB).unwrap().moved(16, |location| if location == 0 { 9 } else { 15 });
+    let found = after(&moved, &[1, 1, 2]);
+    let seen: Vec<u16> = found.threads.iter().map(|thread| thread.seen).collect();
+    // As above, with the starting writes of all other locations.
+    assert_eq!(seen, [0x7fff, 0xffff]);
+    for (x, location) in found.locations.iter().enumerate() {
+        let of_newest = match x {
+            9 => 0x7fff,
+            15 => 0xffff,
+            // A starting write has nothing before it, and has not been accessed.
+            _ => 1 << x,
+        };
+        assert_eq!((location.seen_by_newest, location.seen_by_any), (of_newest, of_newest), "location {x}");
+        let mut stale = [0; 16];
+        stale[9] = if x == 9 { 0 } else { ZERO };
+        stale[15] = if x == 15 { 0 } else { ZERO };
+        assert_eq!((location.readable, location.writable), (stale, stale), "location {x}");
+    }
 }
 
 #[test]

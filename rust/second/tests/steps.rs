@@ -140,7 +140,7 @@ fn a_step_that_is_taken_leaves_other_states_as_they_are() {
 fn a_step_has_its_bytes_and_its_line() {
     for (access, bytes, line) in [
         (None, [8, 0, 0, 0], "8 L 0 0"),
-        (read(7, 0), [8, 1, 7, 0], "8 R 7 0"),
+        (read(15, 0), [8, 1, 15, 0], "8 R 15 0"),
         (write(X, 15), [8, 2, 0, 15], "8 W 0 15"),
         (update(Y, 10), [8, 3, 1, 10], "8 M 1 10"),
     ] {

@@ -1,4 +1,4 @@
-//! The cases of document 01, each with its lent lengths.
+//! The cases of document 01, each with its lent lengths, as document 02, Point 3, has them.
 #![forbid(unsafe_code)]
 
 use models::collection;
@@ -31,28 +31,28 @@ fn of_sb() -> Answer {
 #[test]
 fn sb_has_its_witness_in_situation_7() {
     let sb = model("sb");
-    is(&check(&sb, 413, TRACE), of_sb(), 7, &STEPS_OF_SB);
-    is(&check(&sb, 412, TRACE), Answer::Full { count: 6 }, 6, &[]);
+    is(&check(&sb, 455, TRACE), of_sb(), 7, &STEPS_OF_SB);
+    is(&check(&sb, 454, TRACE), Answer::Full { count: 6 }, 6, &[]);
 }
 
 #[test]
 fn sb_needs_a_trace_of_12() {
     let sb = model("sb");
     for trace in 0..12 {
-        is(&check(&sb, 413, trace), Answer::ShortTrace { wanted: 12 }, 7, &[]);
+        is(&check(&sb, 455, trace), Answer::ShortTrace { wanted: 12 }, 7, &[]);
     }
-    assert_eq!(check(&sb, 413, 11).places, check(&sb, 413, TRACE).places);
-    is(&check(&sb, 413, 12), of_sb(), 7, &STEPS_OF_SB);
+    assert_eq!(check(&sb, 455, 11).places, check(&sb, 455, TRACE).places);
+    is(&check(&sb, 455, 12), of_sb(), 7, &STEPS_OF_SB);
     // Check 10 is asked only if the witness is among the first N.
-    is(&check(&sb, 412, 11), Answer::Full { count: 6 }, 6, &[]);
+    is(&check(&sb, 454, 11), Answer::Full { count: 6 }, 6, &[]);
 }
 
 #[test]
 fn mp_has_13_situations() {
     let mp = model("mp");
-    is(&check(&mp, 767, TRACE), Answer::Robust { count: 13 }, 13, &[]);
-    is(&check(&mp, 766, TRACE), Answer::Full { count: 12 }, 12, &[]);
-    is(&check(&mp, 767, 0), Answer::Robust { count: 13 }, 13, &[]);
+    is(&check(&mp, 845, TRACE), Answer::Robust { count: 13 }, 13, &[]);
+    is(&check(&mp, 844, TRACE), Answer::Full { count: 12 }, 12, &[]);
+    is(&check(&mp, 845, 0), Answer::Robust { count: 13 }, 13, &[]);
 }
 
 #[test]
@@ -60,19 +60,19 @@ fn in_2_2w_a_write_is_the_witness() {
     let witness = Witness { thread: 2, kind: Kind::Write, location: 0, value: 0 };
     let answer = Answer::NotRobust { count: 8, steps: 3, witness };
     // x := 1; y := 2 ‖ y := 1.
-    is(&check(&model("2+2w"), 8 * 59, TRACE), answer, 8, &[1, 2, 0, 1, 1, 2, 1, 2, 2, 2, 1, 1]);
+    is(&check(&model("2+2w"), 520, TRACE), answer, 8, &[1, 2, 0, 1, 1, 2, 1, 2, 2, 2, 1, 1]);
 }
 
 #[test]
 fn the_barrier_has_7_situations() {
-    is(&check(&model("barrier"), 7 * 59, TRACE), Answer::Robust { count: 7 }, 7, &[]);
+    is(&check(&model("barrier"), 455, TRACE), Answer::Robust { count: 7 }, 7, &[]);
 }
 
 #[test]
 fn an_empty_thread_has_one_situation() {
     let empty = b"PR\x01\x01\x02TH\x00";
-    is(&check(empty, 26, TRACE), Answer::Robust { count: 1 }, 1, &[]);
-    is(&check(empty, 25, TRACE), Answer::Full { count: 0 }, 0, &[]);
+    is(&check(empty, 29, TRACE), Answer::Robust { count: 1 }, 1, &[]);
+    is(&check(empty, 28, TRACE), Answer::Full { count: 0 }, 0, &[]);
     is(&check(empty, 0, 0), Answer::Full { count: 0 }, 0, &[]);
 }
 

@@ -201,7 +201,7 @@ const CHAIN_4: &[Size] = &[
     size(&[75, 75, 75, 75], 972_845),
 ];
 
-/// No million: places have 479 bytes.
+/// No million: places have 500 bytes.
 const CHAIN_5: &[Size] = &[
     size(&[1, 0, 0, 0, 0], 8),
     size(&[1, 1, 0, 0, 0], 44),

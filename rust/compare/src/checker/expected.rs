@@ -2,7 +2,7 @@
 
 use answer::{steps_in, Access, EightNumbers, Kind, Report, Step};
 use program::{place_size, places_available, read, Program};
-use second::{Answer, Search, Witness};
+use second::{Answer, Ending, Search, Witness};
 
 /// How much is lent.
 #[derive(Clone, Copy, Debug, PartialEq, Eq)]
@@ -31,6 +31,11 @@ impl Expected {
     /// The search, if the program is accepted.
     pub fn search(&self) -> Option<&Search> {
         self.program.as_ref().ok().map(|(_, search)| search)
+    }
+
+    /// Whether the search found a witness.
+    pub fn is_not_robust(&self) -> bool {
+        self.search().is_some_and(|search| matches!(search.ending, Ending::Witness(_)))
     }
 
     /// How many places the search found, none if the program is refused.

@@ -4,7 +4,7 @@ use std::fmt::{self, Display, Formatter};
 
 use models::disassemble;
 use program::Program;
-use random::{program, Numbers, Shape};
+use random::{program, scattered, Numbers, Shape};
 use second::{Answer, Ending, Kind, Report, Step};
 
 use super::difference::difference;
@@ -14,10 +14,15 @@ use super::expected::{Expected, Lengths};
 /// it. The models have up to some 30,000.
 const PLACES: usize = 200;
 
-/// A random program for the comparison.
+/// A random program for the comparison. One in four is scattered among more than eight locations.
 pub fn random_program(numbers: &mut Numbers) -> Program {
     let shape = Shape::mixed(numbers);
-    program(numbers, &shape)
+    let drawn = program(numbers, &shape);
+    if numbers.once_in(4) {
+        scattered(numbers, drawn)
+    } else {
+        drawn
+    }
 }
 
 /// Several lengths at which something changes for a program: places that just suffice or just don't, none, some, and
@@ -74,6 +79,8 @@ pub fn index_lengths(numbers: &mut Numbers, places: usize) -> [usize; INDEXES] {
 pub struct Tally {
     /// Programs compared.
     pub programs: usize,
+    /// Those with more than eight locations that are not robust.
+    pub not_robust_above_8: usize,
     /// RB
     pub robust: usize,
     /// NR
@@ -94,9 +101,10 @@ pub struct Tally {
 
 impl Display for Tally {
     fn fmt(&self, to: &mut Formatter) -> fmt::Result {
-        let Tally { programs, robust, not_robust, full, short_trace, refused, places, steps, indexed } = self;
-        let [l, r, w, m] = steps;
+        let Tally { programs, not_robust_above_8, places, steps: [l, r, w, m], indexed, .. } = self;
+        let Tally { robust, not_robust, full, short_trace, refused, .. } = self;
         write!(to, "{programs} programs, {places} places, {indexed} indexes; ")?;
+        write!(to, "not robust with more than 8 locations: {not_robust_above_8} programs; ")?;
         write!(to, "answers: RB {robust}, NR {not_robust}, FU {full}, 10 {short_trace}, 1 to 9 {refused}; ")?;
         write!(to, "steps: L {l}, R {r}, W {w}, M {m}")
     }
@@ -130,6 +138,7 @@ pub fn compare_program(bytes: &[u8], numbers: &mut Numbers, tally: &mut Tally) -
     let is_refused = expected.search().is_none();
     let start = numbers.below(INDEXES / 2);
     tally.programs += 1;
+    tally.not_robust_above_8 += usize::from(expected.sizes().1 > 8 && expected.is_not_robust());
     for (turn, lengths) in lengths(numbers, &expected).into_iter().enumerate() {
         let all = index_lengths(numbers, expected.places());
         let two = 2 * ((start + turn) % (INDEXES / 2));

@@ -30,9 +30,9 @@ pub fn decode(place: &[u8], threads: usize, locations: usize) -> Option<Written>
     let registers = bytes.all(threads, Bytes::take)?;
     let values = bytes.all(locations, Bytes::byte)?;
 
-    let known_to_thread = bytes.all(threads, Bytes::byte)?;
-    let known_to_newest = bytes.all(locations, Bytes::byte)?;
-    let known_to_access = bytes.all(locations, Bytes::byte)?;
+    let known_to_thread = bytes.all(threads, Bytes::set)?;
+    let known_to_newest = bytes.all(locations, Bytes::set)?;
+    let known_to_access = bytes.all(locations, Bytes::set)?;
 
     let row = |bytes: &mut Bytes| bytes.sets(locations);
     let readable_by_thread = bytes.all(threads, row)?;
@@ -43,14 +43,14 @@ pub fn decode(place: &[u8], threads: usize, locations: usize) -> Option<Written>
     let thread = |t: usize| ThreadPart {
         line: lines[t],
         registers: registers[t],
-        seen: known_to_thread[t].into(),
+        seen: known_to_thread[t],
         readable: readable_by_thread[t],
         writable: writable_by_thread[t],
     };
     let location = |x: usize| LocationPart {
         value: values[x],
-        seen_by_newest: known_to_newest[x].into(),
-        seen_by_any: known_to_access[x].into(),
+        seen_by_newest: known_to_newest[x],
+        seen_by_any: known_to_access[x],
         readable: readable_by_newest[x],
         writable: writable_by_newest[x],
     };
@@ -82,11 +82,16 @@ impl Bytes<'_> {
         self.take().map(|[byte]| byte)
     }
 
+    /// A set, of locations or of values.
+    fn set(&mut self) -> Option<u16> {
+        self.take().map(u16::from_le_bytes)
+    }
+
     /// A set of values for each location.
     fn sets<const N: usize>(&mut self, locations: usize) -> Option<[u16; N]> {
         let mut sets = [0; N];
         for set in sets.iter_mut().take(locations) {
-            *set = u16::from_le_bytes(self.take()?);
+            *set = self.set()?;
         }
         Some(sets)
     }

@@ -1,4 +1,4 @@
-//! The cases of document 01 as the library answers them, in numbers.
+//! The cases of document 01 as the library answers them, in numbers, with the lent lengths of document 02, Point 3.
 
 use models::collection;
 use order_check::numbers;
@@ -30,35 +30,49 @@ fn sb() {
     let sb = model("sb");
     for more in 0..=4 {
         let trace = [OF_SB.as_slice(), &vec![9; more]].concat();
-        assert_eq!(answer(&sb, 413, 12 + more), ([NR, 0, 7, 3, 2, 1, 0, 0], trace));
-        assert_eq!(answer(&sb, 412, 12 + more), ([FU, 11, 6, 0, 0, 0, 0, 0], vec![9; 12 + more]));
+        assert_eq!(answer(&sb, 455, 12 + more), ([NR, 0, 7, 3, 2, 1, 0, 0], trace));
+        assert_eq!(answer(&sb, 454, 12 + more), ([FU, 11, 6, 0, 0, 0, 0, 0], vec![9; 12 + more]));
     }
     for short in 0..12 {
-        assert_eq!(answer(&sb, 413, short), ([REFUSED, 10, 0, 12, 0, 0, 0, 0], vec![9; short]));
+        assert_eq!(answer(&sb, 455, short), ([REFUSED, 10, 0, 12, 0, 0, 0, 0], vec![9; short]));
     }
 }
 
 #[test]
 fn mp() {
-    assert_eq!(answer(&model("mp"), 767, 1), ([RB, 0, 13, 0, 0, 0, 0, 0], vec![9]));
-    assert_eq!(answer(&model("mp"), 766, 1), ([FU, 11, 12, 0, 0, 0, 0, 0], vec![9]));
+    assert_eq!(answer(&model("mp"), 845, 1), ([RB, 0, 13, 0, 0, 0, 0, 0], vec![9]));
+    assert_eq!(answer(&model("mp"), 844, 1), ([FU, 11, 12, 0, 0, 0, 0, 0], vec![9]));
 }
 
 #[test]
 fn two_writes_barrier_and_the_empty_thread() {
-    assert_eq!(answer(&model("2+2w"), 49_152, 12), ([NR, 0, 8, 3, 2, 2, 0, 0], OF_2_2W.to_vec()));
-    assert_eq!(answer(&model("barrier"), 49_152, 0).0, [RB, 0, 7, 0, 0, 0, 0, 0]);
-    assert_eq!(answer(b"PR\x01\x01\x02TH\x00", 26, 0).0, [RB, 0, 1, 0, 0, 0, 0, 0]);
-    assert_eq!(answer(b"PR\x01\x01\x02TH\x00", 25, 0).0, [FU, 11, 0, 0, 0, 0, 0, 0]);
+    assert_eq!(answer(&model("2+2w"), 520, 12), ([NR, 0, 8, 3, 2, 2, 0, 0], OF_2_2W.to_vec()));
+    assert_eq!(answer(&model("barrier"), 455, 0).0, [RB, 0, 7, 0, 0, 0, 0, 0]);
+    assert_eq!(answer(b"PR\x01\x01\x02TH\x00", 29, 0).0, [RB, 0, 1, 0, 0, 0, 0, 0]);
+    assert_eq!(answer(b"PR\x01\x01\x02TH\x00", 28, 0).0, [FU, 11, 0, 0, 0, 0, 0, 0]);
 }
 
 #[test]
-fn refused_programs() {
+fn refused_programs_and_their_neighbours() {
     let jump = |target| [b"PR\x01\x01\x02TH\x01IN\x04\x00".as_slice(), &[target], b"\x01\x00"].concat();
     let more = [model("sb").as_slice(), b"\x00"].concat();
     let k_is_1 = b"PR\x01\x01\x01TH\x00".to_vec();
-    for (bytes, number) in [(vec![], 1), (k_is_1, 2), (more, 9), (jump(2), 7)] {
+    let locations = |count| [b"PR\x01", [count, 2].as_slice(), b"TH\x00"].concat();
+    let write_to = |target| [b"PR\x01\x10\x02TH\x01IN\x05\x00", [target].as_slice(), b"\x01\x00"].concat();
+    for (bytes, number) in [
+        (vec![], 1),
+        (k_is_1, 2),
+        (locations(0), 2),
+        (locations(17), 2),
+        (more, 9),
+        (jump(2), 7),
+        (write_to(16), 7),
+    ] {
         assert_eq!(answer(&bytes, 500, 3), ([REFUSED, number, 0, 0, 0, 0, 0, 0], vec![9; 3]));
     }
     assert_eq!(answer(&jump(1), 500, 0).0, [RB, 0, 2, 0, 0, 0, 0, 0]);
+    // Places of one thread and sixteen locations have 1,184 bytes.
+    assert_eq!(answer(&locations(16), 1_184, 0).0, [RB, 0, 1, 0, 0, 0, 0, 0]);
+    assert_eq!(answer(&write_to(15), 2 * 1_184, 0).0, [RB, 0, 2, 0, 0, 0, 0, 0]);
+    assert_eq!(answer(&write_to(15), 2 * 1_184 - 1, 0).0, [FU, 11, 1, 0, 0, 0, 0, 0]);
 }

@@ -3,18 +3,24 @@
 
 use compare::checker::{compare_program, random_program, Tally};
 use program::encode;
-use random::{damage, program, Numbers, Shape};
+use random::{damage, program, scattered, Numbers, Shape};
+
+/// What was compared on so many inputs, each made of the numbers of a seed.
+fn compared(seed: u64, count: usize, input: impl Fn(&mut Numbers) -> Vec<u8>) -> Tally {
+    let mut numbers = Numbers::new(seed);
+    let mut tally = Tally::default();
+    for number in 1..=count {
+        let bytes = input(&mut numbers);
+        if let Err(difference) = compare_program(&bytes, &mut numbers, &mut tally) {
+            panic!("input {number}: {difference}");
+        }
+    }
+    tally
+}
 
 #[test]
 fn on_random_programs() {
-    let mut numbers = Numbers::new(1);
-    let mut tally = Tally::default();
-    for number in 1..=4_000 {
-        let bytes = encode(&random_program(&mut numbers));
-        if let Err(difference) = compare_program(&bytes, &mut numbers, &mut tally) {
-            panic!("program {number}: {difference}");
-        }
-    }
+    let tally = compared(1, 4_000, |numbers| encode(&random_program(numbers)));
     let Tally { robust, not_robust, full, short_trace, indexed, .. } = tally;
     assert!([robust, not_robust, full, short_trace].iter().all(|&count| count >= 500), "{tally}");
     assert!(indexed >= 40_000, "{tally}");
@@ -22,28 +28,26 @@ fn on_random_programs() {
 
 #[test]
 fn on_programs_with_long_traces() {
-    let mut numbers = Numbers::new(3);
-    let mut tally = Tally::default();
-    for number in 1..=1_000 {
-        let bytes = encode(&program(&mut numbers, &Shape::winding()));
-        if let Err(difference) = compare_program(&bytes, &mut numbers, &mut tally) {
-            panic!("program {number}: {difference}");
-        }
-    }
+    let tally = compared(3, 1_000, |numbers| encode(&program(numbers, &Shape::winding())));
     assert!(tally.not_robust >= 1_000 && tally.short_trace >= 500, "{tally}");
     assert!(tally.steps.iter().all(|&steps| steps >= 1_000), "{tally}");
 }
 
 #[test]
+fn on_programs_of_more_than_eight_locations() {
+    let tally = compared(4, 1_500, |numbers| {
+        let drawn = program(numbers, &Shape::litmus());
+        encode(&scattered(numbers, drawn))
+    });
+    assert!(tally.not_robust_above_8 >= 500, "{tally}");
+}
+
+#[test]
 fn on_damaged_programs() {
-    let mut numbers = Numbers::new(2);
-    let mut tally = Tally::default();
-    for number in 1..=20_000 {
-        let mut bytes = encode(&program(&mut numbers, &Shape::small()));
-        damage(&mut numbers, &mut bytes);
-        if let Err(difference) = compare_program(&bytes, &mut numbers, &mut tally) {
-            panic!("input {number}: {difference}");
-        }
-    }
+    let tally = compared(2, 20_000, |numbers| {
+        let mut bytes = encode(&program(numbers, &Shape::small()));
+        damage(numbers, &mut bytes);
+        bytes
+    });
     assert!(tally.refused >= 30_000 && tally.robust >= 1_000, "{tally}");
 }

@@ -4,6 +4,7 @@
 mod call_again;
 mod checker_cases;
 mod checker_growing;
+mod checker_high;
 mod checker_index;
 mod checker_models;
 mod checker_place;

@@ -121,10 +121,15 @@ fn a_fence_without_a_free_register_is_a_bcas() {
 
 #[test]
 fn there_is_no_room_past_the_limits() {
-    let others: String = ["c", "d", "e", "g", "h", "i"].map(|name| format!("{name} := 1\n")).concat();
-    let eight = program("a b c d e g h i", &format!("a := 1\nr0 := b\n{others}"));
-    assert_eq!(changed(&eight, &[fence(0, 0)]), None);
-    assert!(changed(&eight, &[Change::Update { thread: 0, line: 1 }]).is_some());
+    let all = ["a", "b", "c", "d", "e", "g", "h", "i", "j", "k", "l", "m", "n", "o", "p", "q"];
+    let of = |names: &[&str]| {
+        let others: String = names[2..].iter().map(|name| format!("{name} := 1\n")).collect();
+        program(&names.join(" "), &format!("a := 1\nr0 := b\n{others}"))
+    };
+    let fenced = changed_program(&of(&all[..15]), &[fence(0, 0)]).unwrap();
+    assert_eq!((fenced.locations, fenced.threads[0][1].location()), (16, Some(15)));
+    assert_eq!(changed(&of(&all), &[fence(0, 0)]), None);
+    assert!(changed(&of(&all), &[Change::Update { thread: 0, line: 1 }]).is_some());
     let long = |lines: usize| program("x", &("x := 1\n".repeat(lines) + "if r0 goto end\nend:\n"));
     let fenced = changed_program(&long(62), &[fence(0, 3)]).unwrap();
     assert_eq!(fenced.threads[0].len(), 64);

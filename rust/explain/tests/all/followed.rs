@@ -114,14 +114,25 @@ fn fences_beside_those_of_the_model_may_need_more() {
     assert_eq!(check_in(TABLE, &apart.program), Checked::Robust);
 }
 
+/// Store buffering with this line in the second thread, and a third one that uses so many other locations.
+fn beside(others: usize, line: &str) -> String {
+    let names = &["a", "b", "c", "d", "e", "g", "h", "i", "j", "k", "l", "m", "n"][..others];
+    let writes: String = names.iter().map(|name| format!("{name} := 1\n")).collect();
+    format!(
+        "values 2\nlocations x y f {}\nthread\nx := 1\nr0 := y\nthread\ny := 1\n{line}\nr0 := x\nthread\n{writes}",
+        names.join(" ")
+    )
+}
+
 #[test]
-fn a_model_of_eight_locations_has_room_for_fences_on_its_own() {
-    let text = "values 2\nlocations x y a b c d e f\nthread\nx := 1\nr0 := y\nthread\ny := 1\n\
-        BCAS(f, 0 -> 0)\nr0 := x\nthread\na := 1\nb := 1\nc := 1\nd := 1\ne := 1\n";
-    let words = followed(text);
+fn a_model_of_sixteen_locations_has_room_for_fences_on_its_own() {
+    let words = followed(&beside(13, "BCAS(f, 0 -> 0)"));
     assert_eq!(verdicts_on(&words, &[4]), ["robust"], "{words}");
-    let words = followed(&text.replace("BCAS(f, 0 -> 0)", "BCAS(f, 0 -> 1)"));
-    assert_eq!(verdicts_on(&words, &[4]), ["not tried"], "{words}");
+    let used = |others| followed(&beside(others, "BCAS(f, 0 -> 1)"));
+    assert_eq!(verdicts_on(&used(13), &[4]), ["not tried"]);
+    assert_eq!(verdicts_on(&used(13), &[4, 7]), ["not tried"]);
+    assert_eq!(verdicts_on(&used(12), &[4]), ["not robust"], "one more is the sixteenth");
+    assert_eq!(verdicts_on(&used(12), &[4, 7]), ["robust"]);
 }
 
 #[test]

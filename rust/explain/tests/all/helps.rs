@@ -129,16 +129,24 @@ fn a_checker_that_reports_nonsense_ends_the_search() {
 
 #[test]
 fn what_has_no_room_is_said_in_words() {
-    let text = "values 2\nlocations x y a b c d e f\nthread\nx := 1\nr0 := y\nthread\ny := 1\nr0 := x\n\
-        thread\na := 1\nb := 1\nc := 1\nd := 1\ne := 1\nf := 1\n";
-    let explanation = explained(&of_source("eight", source(text)).unwrap());
-    let Help { fences, enough, .. } = explanation.help();
+    // Store buffering, and a thread that uses all other locations.
+    let explanation = |locations: usize| {
+        let others = &["a", "b", "c", "d", "e", "f", "g", "h", "i", "j", "k", "l", "m", "n"][..locations - 2];
+        let writes: String = others.iter().map(|name| format!("{name} := 1\n")).collect();
+        let threads = "thread\nx := 1\nr0 := y\nthread\ny := 1\nr0 := x\nthread\n";
+        let text = format!("values 2\nlocations x y {}\n{threads}{writes}", others.join(" "));
+        explained(&of_source("all locations used", source(&text)).unwrap())
+    };
+    let [fits, full] = [15, 16].map(explanation);
+    assert_eq!(fits.help().enough.verdict, Verdict::Robust);
+    let Help { fences, enough, .. } = full.help();
     assert!(fences.iter().chain([enough]).all(|trial| trial.verdict == Verdict::NoRoom));
-    let words = explanation.words(false);
-    assert!(
-        words.contains("not tried   a fence directly after line 4 (x := 1), before line 5 (r0 := y)"),
-        "{words}"
-    );
+    let [fits, full] = [fits, full].map(|explanation| explanation.words(false));
+    let change = "a fence directly after line 4 (x := 1), before line 5 (r0 := y)";
+    assert!(fits.contains(&format!("not robust  {change}")), "{fits}");
+    let reason = "a model has at most 16 locations, and a thread 64 lines";
+    let unwrapped = full.split_whitespace().collect::<Vec<_>>().join(" ");
+    assert!(unwrapped.contains(&format!("not tried {change}: {reason}")), "{full}");
 }
 
 /// Threads that are written once share their lines: a change of a line is one of each of them.

@@ -28,7 +28,7 @@ fn changed(step: Step) -> Vec<Step> {
     };
     let of = |access| Step { access, ..step };
     let kinds = KINDS.map(|kind| of(Some(Access { kind, ..access })));
-    let locations = (0..=8).map(|location| of(Some(Access { location, ..access })));
+    let locations = (0..=16).map(|location| of(Some(Access { location, ..access })));
     let values = (0..=16).map(|value| of(Some(Access { value, ..access })));
     let all = threads.chain(kinds).chain(locations).chain(values).chain([of(None)]);
     all.filter(|&other| other != step).collect()
@@ -73,7 +73,7 @@ fn changed_reports(report: Report) -> Vec<Report> {
     let lengths = [steps - 1, steps + 1].map(|steps| of(steps, thread, kind, location, value));
     let threads = (0..=9).map(|thread| of(steps, thread, kind, location, value));
     let kinds = KINDS.map(|kind| of(steps, thread, kind, location, value));
-    let locations = (0..=8).map(|location| of(steps, thread, kind, location, value));
+    let locations = (0..=16).map(|location| of(steps, thread, kind, location, value));
     let values = (0..=16).map(|value| of(steps, thread, kind, location, value));
     let all = lengths.into_iter().chain(threads).chain(kinds).chain(locations).chain(values);
     all.filter(|&other| other != report).collect()

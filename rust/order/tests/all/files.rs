@@ -59,7 +59,7 @@ fn several_files_get_a_line_each_and_the_worst_status() {
     ends_quietly(&run(&["sb.order", "mp.order"], b""), 10, &format!("{sb}mp.order: RB 13\n"));
     let full = ["--table", "100", "mp.order", "empty-thread.order"];
     ends(&run(&full, b""), 11, "mp.order: FU 1\nempty-thread.order: RB 1\n");
-    ends(&run(&["--table", "600", "mp.order", "sb.order"], b""), 10, &format!("mp.order: FU 10\n{sb}"));
+    ends(&run(&["--table", "600", "mp.order", "sb.order"], b""), 10, &format!("mp.order: FU 9\n{sb}"));
     let said =
         ends(&run(&["sb.order", "missing.order", "-"], b"PR"), 1, &format!("{sb}standard input: NO 1\n"));
     assert!(said.contains("order: missing.order: "), "{said}");

@@ -2,6 +2,7 @@
 #![forbid(unsafe_code)]
 
 mod files;
+mod locations;
 mod output;
 mod printing;
 mod readme;

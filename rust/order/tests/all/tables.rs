@@ -10,10 +10,10 @@ fn a_full_table_is_followed_by_longer_ones() {
     let said = ends(&run(&["seqlock.order"], b""), 0, "RB 17823\n");
     let lines: Vec<&str> = said.lines().collect();
     assert_eq!(lines.len(), 2, "{said}");
-    assert!(lines[0].starts_with("order: seqlock.order: no witness in 455 situations (48 KiB, "), "{said}");
-    assert!(lines[0].ends_with("going on with 440.9 KiB"), "{said}");
+    assert!(lines[0].starts_with("order: seqlock.order: no witness in 420 situations (48 KiB, "), "{said}");
+    assert!(lines[0].ends_with("going on with 436.5 KiB"), "{said}");
     assert!(
-        lines[1].starts_with("order: seqlock.order: no witness in 3640 situations (440.9 KiB, "),
+        lines[1].starts_with("order: seqlock.order: no witness in 3360 situations (436.5 KiB, "),
         "{said}"
     );
     ends_quietly(&run(&["-q", "seqlock.order"], b""), 0, "RB 17823\n");
@@ -39,13 +39,13 @@ fn what_the_search_took_is_said_when_asked_for() {
 #[test]
 fn one_table_is_one_table() {
     for size in ["49152", "49_152", "48K"] {
-        let said = ends(&run(&["--table", size, "seqlock.order"], b""), 11, "FU 455\n");
-        assert!(said.starts_with("order: seqlock.order: undecided: no witness in 455 situations"), "{said}");
+        let said = ends(&run(&["--table", size, "seqlock.order"], b""), 11, "FU 420\n");
+        assert!(said.starts_with("order: seqlock.order: undecided: no witness in 420 situations"), "{said}");
         assert!(said.contains("(--table 192K)") && said.lines().count() == 1, "{said}");
     }
     ends_quietly(&run(&["--table=10M", "seqlock.order"], b""), 0, "RB 17823\n");
-    ends_quietly(&run(&["--table", "413", "-"], SB), 10, SB_LINES);
-    ends(&run(&["--table", "412", "-"], SB), 11, "FU 6\n");
+    ends_quietly(&run(&["--table", "455", "-"], SB), 10, SB_LINES);
+    ends(&run(&["--table", "454", "-"], SB), 11, "FU 6\n");
     let said = ends(&run(&["--table", "1", "-"], SB), 11, "FU 0\n");
     assert!(said.contains("more than a table of 1 byte holds"), "{said}");
     ends(&run(&["--table", "0", "-"], SB), 11, "FU 0\n");
@@ -57,9 +57,9 @@ fn the_trace_has_room_for_any_run() {
     // The printing program decides it in its own table too, and in the same way.
     let stored = fs::read_to_string(models().join("reports/long-run.txt")).unwrap();
     assert_eq!(stored.lines().count(), 706);
-    // 711 places of two threads and two locations.
-    ends_quietly(&run(&["--table", "41949", "long-run.order"], b""), 10, &stored);
-    ends(&run(&["--table", "41948", "long-run.order"], b""), 11, "FU 710\n");
+    // 711 places of two threads and two locations, 65 bytes each.
+    ends_quietly(&run(&["--table", "46215", "long-run.order"], b""), 10, &stored);
+    ends(&run(&["--table", "46214", "long-run.order"], b""), 11, "FU 710\n");
     ends_quietly(&run(&["long-run.order"], b""), 10, &stored);
 }
 
@@ -68,9 +68,9 @@ fn an_index_makes_it_fast() {
     // Four threads of 15 lines that read one location, which only makes them go on: 16 to the power of four situations.
     let thread = format!("thread\n{}", "r0 := x\n".repeat(15));
     let text = format!("values 2\nlocations x\n{}", thread.repeat(4));
-    // A place of four threads and one location has 56 bytes.
-    ends_quietly(&run(&["--table", "3670016", "-"], text.as_bytes()), 0, "RB 65536\n");
-    ends(&run(&["--table", "3670015", "-"], text.as_bytes()), 11, "FU 65535\n");
+    // A place of four threads and one location has 62 bytes.
+    ends_quietly(&run(&["--table", "4063232", "-"], text.as_bytes()), 0, "RB 65536\n");
+    ends(&run(&["--table", "4063231", "-"], text.as_bytes()), 11, "FU 65535\n");
 }
 
 #[test]
@@ -88,5 +88,5 @@ fn memory_that_the_system_refuses_is_a_message_too() {
     let line = "ulimit -v 200000; exec \"$0\" --table 300M mp.order";
     shell.args(["-c", line, env!("CARGO_BIN_EXE_order")]).current_dir(models());
     let said = ends(&finish(&mut shell, b""), 1, "");
-    assert_eq!(said, "order: mp.order: no memory for a table of 300 MiB and its index of 81.4 MiB\n");
+    assert_eq!(said, "order: mp.order: no memory for a table of 300 MiB and its index of 73.8 MiB\n");
 }

@@ -32,15 +32,20 @@ impl Rect {
     }
 }
 
+/// The room between two tiers of starting writes.
+const TIER_GAP: i32 = GAP / 2;
+
 /// Where the starting writes end, and lines from them may turn.
-pub const STARTS_END: i32 = HEIGHT;
+pub fn starts_end(frame: &Frame) -> i32 {
+    frame.tiers() as i32 * (HEIGHT + TIER_GAP) - TIER_GAP
+}
 
 /// The box of each event, with so much room below the starting writes.
 pub fn boxes(drawing: &Drawing, frame: &Frame, turns: i32) -> Vec<Rect> {
     let rect = |event| {
         let y = match drawing.row(event) as i32 {
-            0 => 0,
-            row => STARTS_END + turns + HEADING + GAP + (row - 1) * (HEIGHT + GAP),
+            0 => (event % frame.tiers()) as i32 * (HEIGHT + TIER_GAP),
+            row => starts_end(frame) + turns + HEADING + GAP + (row - 1) * (HEIGHT + GAP),
         };
         let Span { left, width } = frame.span(drawing, event);
         Rect { x: left, y, width, height: HEIGHT }

@@ -19,6 +19,15 @@ const LEAST: i32 = 100;
 /// Room between a column's sides and its boxes.
 const MARGIN: i32 = 8;
 
+/// Starting writes that ask for more than this, and for more than the columns, stand in several tiers.
+const WIDE: i32 = 1_280;
+
+/// The most tiers.
+const TIERS: usize = 4;
+
+/// How far to the right of a starting write the next tier's stands: the lines from the first lead down before the next.
+pub const STEP: i32 = 3 * LANE;
+
 /// A part of the picture's width.
 #[derive(Clone, Copy)]
 pub struct Span {
@@ -33,6 +42,8 @@ pub struct Frame {
     columns: Vec<Span>,
     /// The box of each starting write.
     starts: Vec<Span>,
+    /// How many tiers these have.
+    tiers: usize,
     /// The left side of each gutter.
     gutters: Vec<i32>,
 }
@@ -43,11 +54,18 @@ impl Frame {
         let starts: Vec<i32> = (0..drawing.starts()).map(|start| widest(drawing, start..=start)).collect();
         let columns: Vec<i32> = (0..drawing.threads()).map(|thread| column_width(drawing, thread)).collect();
         let gutters: Vec<i32> = (0..lanes.len()).map(|gutter| gutter_width(lanes, gutter)).collect();
-        let starts_width = starts.iter().map(|width| width + 2 * LANE).sum();
         let columns_width: i32 = columns.iter().chain(&gutters).sum();
+        let fits = |&tiers: &usize| stairs_width(&starts, tiers) <= columns_width.max(WIDE);
+        let tiers = (1..TIERS).find(fits).unwrap_or(TIERS);
+        let starts_width = stairs_width(&starts, tiers);
         let width = columns_width.max(starts_width);
         let (gutters, columns) = beside(on_lane((width - columns_width) / 2), &gutters, &columns);
-        Frame { width, columns, starts: spread(width - starts_width, &starts), gutters }
+        Frame { width, columns, starts: spread(width - starts_width, &starts, tiers), tiers, gutters }
+    }
+
+    /// How many tiers the starting writes have.
+    pub fn tiers(&self) -> usize {
+        self.tiers
     }
 
     /// The columns between two heights, a little wider than their boxes.
@@ -106,16 +124,31 @@ fn beside(mut left: i32, gutters: &[i32], columns: &[i32]) -> (Vec<i32>, Vec<Spa
     (sides, spans)
 }
 
-/// Starting writes of these widths, with so much room to spare between them.
-fn spread(spare: i32, widths: &[i32]) -> Vec<Span> {
-    let gap = 2 * LANE + on_lane(spare / widths.len().max(1) as i32);
+/// Starting writes of these widths, with so much room to spare between the stairs that they make.
+fn spread(spare: i32, widths: &[i32], tiers: usize) -> Vec<Span> {
+    let gap = 2 * LANE + on_lane(spare / widths.len().div_ceil(tiers).max(1) as i32);
     let mut next = on_lane(gap / 2);
-    let span = |&width: &i32| {
+    let stair = |stair: &[i32]| {
         let left = next;
-        next += width + gap;
-        Span { left, width }
+        next += stair_width(stair) + gap;
+        let spans = stair.iter().enumerate().map(|(tier, &width)| Span { left: left + step(tier), width });
+        spans.collect::<Vec<_>>()
     };
-    widths.iter().map(span).collect()
+    widths.chunks(tiers).flat_map(stair).collect()
+}
+
+/// The width of starting writes with these widths in so many tiers.
+fn stairs_width(widths: &[i32], tiers: usize) -> i32 {
+    widths.chunks(tiers).map(|stair| stair_width(stair) + 2 * LANE).sum()
+}
+
+/// The width of a stair: one starting write in each tier, from the highest on.
+fn stair_width(widths: &[i32]) -> i32 {
+    widths.iter().enumerate().map(|(tier, width)| step(tier) + width).max().unwrap_or(0)
+}
+
+fn step(tier: usize) -> i32 {
+    tier as i32 * STEP
 }
 
 /// The last multiple of the lanes' distance.

@@ -2,8 +2,8 @@
 
 use std::collections::{BTreeMap, HashMap};
 
-use super::boxes::{Rect, GAP, STARTS_END};
-use super::frame::{Frame, Span, LANE};
+use super::boxes::{starts_end, Rect, GAP};
+use super::frame::{Frame, Span, LANE, STEP};
 use super::lanes::lanes;
 use super::path::Point;
 use super::ports::{ends, Port, Ports, Side};
@@ -58,10 +58,11 @@ impl Wiring<'_> {
         Turns { at, height: (count as i32 + 1) * TURN }
     }
 
-    /// Where a port below a starting write is: between two lanes.
+    /// Where a port below a starting write is: between two lanes, and left of the next tier.
     fn below(&self, port: &Port) -> i32 {
         let Span { left, width } = self.frame.span(self.drawing, port.event);
-        left + self.ports.offset(port, width) / LANE * LANE + LANE / 2
+        let free = if self.frame.tiers() == 1 { width } else { STEP };
+        left + self.ports.offset(port, free) / LANE * LANE + LANE / 2
     }
 
     /// The way of each edge that is drawn.
@@ -105,7 +106,7 @@ impl Wiring<'_> {
             Side::Right => vec![(rect.right(), y)],
             Side::Below => {
                 let x = self.below(port);
-                vec![(x, rect.bottom()), (x, STARTS_END + turns.at[port])]
+                vec![(x, rect.bottom()), (x, starts_end(self.frame) + turns.at[port])]
             }
         }
     }

@@ -42,10 +42,9 @@ fn time_runs_downward_and_each_thread_has_its_column() {
         let events = &reported.execution.as_ref().unwrap().events;
         let starts = reported.source.locations.len();
         let top = |event: usize| drawing.boxes[event].area.y[0];
-        assert!((1..starts).all(|start| top(start) == top(0)), "{}", reported.name);
         for event in starts..events.len() {
-            let before = if event == starts { 0 } else { event - 1 };
-            assert!(drawing.boxes[before].area.y[1] < top(event), "{}: {event}", reported.name);
+            let mut before = drawing.boxes[..event].iter();
+            assert!(before.all(|it| it.area.y[1] < top(event)), "{}: {event}", reported.name);
             for other in starts..event {
                 let is_one = drawing.boxes[event].area.x == drawing.boxes[other].area.x;
                 assert_eq!(is_one, events[event].thread == events[other].thread, "{}", reported.name);

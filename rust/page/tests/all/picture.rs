@@ -94,6 +94,22 @@ fn every_thread_has_its_heading() {
     }
 }
 
+/// The heights of the starting writes, from the first on.
+fn heights(reported: &Reported) -> Vec<i32> {
+    let starts = reported.source.locations.len();
+    Drawing::of(reported).boxes[..starts].iter().map(|it| it.area.y[0]).collect()
+}
+
+#[test]
+fn many_starting_writes_stand_in_tiers_and_few_in_one_row() {
+    assert_eq!(heights(named("crowd.order")), [0; 8]);
+    assert_eq!(heights(named("page-ring-sc.order")), [0, 50, 0, 50, 0, 50, 0, 50, 0, 50, 0]);
+    assert_eq!(heights(named("sixteen.order")), [0, 50, 100, 150].repeat(4));
+    // In one row they would need 16 times 160.
+    let [left, right] = Drawing::of(named("sixteen.order")).area.x;
+    assert!(right - left < 1_400, "{left} to {right}");
+}
+
 #[test]
 fn the_crowd_is_one() {
     let crowd = named("crowd.order");

@@ -77,6 +77,24 @@ fn crowd() -> Reported {
     Reported::on("crowd.order", &format!("values 16\nlocations turn a b c d e f g\n{threads}"))
 }
 
+/// Four threads that take turns and write all of sixteen locations but two, and then store buffering on these.
+fn sixteen() -> Reported {
+    let names = ["a", "b", "c", "d", "e", "f", "g", "h", "i", "j", "k", "l", "m", "n", "o", "p"];
+    let threads = names.chunks(4).enumerate().map(|(number, own)| {
+        let begin =
+            if number > 0 { format!("  wait({} = 1)\n", names[4 * number - 2]) } else { String::new() };
+        let writes: String = own[..3].iter().map(|name| format!("  {name} := 1\n")).collect();
+        let end = match number {
+            0 => "  wait(o = 1)\n  d := 1\n  r0 := p\n".into(),
+            3 => "  p := 1\n  r0 := d\n".into(),
+            _ => format!("  {} := 1\n", own[3]),
+        };
+        format!("thread\n{begin}{writes}  r1 := a\n{end}")
+    });
+    let threads: String = threads.collect();
+    Reported::on("sixteen.order", &format!("values 2\nlocations {}\n{threads}", names.join(" ")))
+}
+
 /// So many random programs that are not robust, of which the longest has some dozen steps.
 fn random(count: usize) -> Vec<Reported> {
     let mut numbers = Numbers::new(2019);
@@ -89,12 +107,12 @@ fn random(count: usize) -> Vec<Reported> {
     programs.enumerate().map(reported).filter(|reported| reported.execution.is_some()).take(count).collect()
 }
 
-/// All that have a graph: the models, random programs and the crowd.
+/// All that have a graph: the models, random programs, the crowd and sixteen locations.
 pub fn with_graph() -> &'static [Reported] {
     static ALL: OnceLock<Vec<Reported>> = OnceLock::new();
     ALL.get_or_init(|| {
         let models = models().into_iter().filter(|model| model.execution.is_some());
-        models.chain(random(200)).chain([crowd()]).collect()
+        models.chain(random(200)).chain([crowd(), sixteen()]).collect()
     })
 }
 
