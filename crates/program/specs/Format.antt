@@ -1,6 +1,6 @@
--- The program bytes, as document 01 has them in its sections "Program bytes" and "Checks", with the locations of document
--- 02, Point 3: from a list of bytes to the number of the first failed check, 1 to 9, or the program. "All fields are one byte, an unsigned number": a byte is a
--- number here. A record is read with the bytes after it.
+-- The program bytes, as document 01 has them in its sections "Program bytes" and "Checks", with the locations of
+-- document 02, Point 3: from a list of bytes to the number of the first failed check, 1 to 9, or the program. "All
+-- fields are one byte, an unsigned number": a byte is a number here. A record is read with the bytes after it.
 use Prim.Native.Nat.{ℕ, zero, suc, _+_, _-_}
 use mathlib.Core.Bool.{Bool, true, false, not, cond, _&&_, _||_}
 use mathlib.Core.List.{List, [], _∷_}
