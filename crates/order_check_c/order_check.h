@@ -40,7 +40,7 @@
  *         }
  *         switch (answer[ORDER_VERDICT]) {
  *         case ORDER_RB:
- *             puts("robust: all accesses may be release and acquire");
+ *             puts("robust: all accesses may be release and acquire, and fences stay");
  *             return 0;
  *         case ORDER_NR:
  *             for (size_t step = 0; step < answer[ORDER_STEPS]; step++) {
@@ -70,14 +70,20 @@ extern "C" {
 
 /* Raised by every version that changes what a caller sees. 1 had a byte a step; 2 has four, with the access; 3 wants
    exactly the bytes of the steps for ORDER_TRACE_SHORT, where 2 promised two bounds; 4 writes the first slots of an
-   index only, where 3 wrote all; 5 takes up to sixteen locations, and its places have T + 2L bytes more. A caller made
-   for 4 works, with fewer places in its table, unless it reads the places or has names for eight locations only; one
-   made for 2 or 3 likewise, unless it reads the index. */
-#define ORDER_CHECK_VERSION 5
+   index only, where 3 wrote all; 5 takes up to sixteen locations, and its places have T + 2L bytes more; 6 takes
+   fences, op 11, which have a location of their own after the named ones, in places and in steps, and refuses a fence
+   beside sixteen named ones by check 12. A caller made for 5 works: only what has an op 11, which 5 refused, is
+   answered otherwise. One made for 4 works, with fewer places in its table, unless it reads the places or has names for
+   eight locations only; one made for 2 or 3 likewise, unless it reads the index. */
+#define ORDER_CHECK_VERSION 6
 
-/* The bytes of a place of the table, for T threads and L locations. */
+/* The bytes of a place of the table, for T threads and L locations. For a program with a fence, an op 11 in any of its
+   lines, reached or not, L is one more than its header says. */
 #define ORDER_PLACE_SIZE(T, L) \
     (9 + (size_t)(T) * (7 + 4 * (size_t)(L)) + (size_t)(L) * (5 + 4 * (size_t)(L)))
+
+/* The same for a program with a fence, of T threads and L named locations, as its header says. */
+#define ORDER_FENCED_PLACE_SIZE(T, L) ORDER_PLACE_SIZE(T, (size_t)(L) + 1)
 
 /* A call uses less stack than this, in bytes, whatever it is given. This is measured, not proved: it uses 6,500 or so. */
 #define ORDER_CHECK_STACK 16384
@@ -87,8 +93,8 @@ enum {
     /* The verdict: one of the four below. */
     ORDER_VERDICT = 0,
 
-    /* The number of the failed check: 1 to 9 where the bytes are no program, ORDER_TRACE_SHORT, or ORDER_TABLE_FULL
-       with ORDER_FU; 0 for ORDER_RB and ORDER_NR. */
+    /* The number of the failed check: 1 to 9 or 12 where the bytes are no program, ORDER_TRACE_SHORT, or
+       ORDER_TABLE_FULL with ORDER_FU; 0 for ORDER_RB and ORDER_NR. */
     ORDER_NUMBER = 1,
 
     /* How many places of the table are written, for ORDER_RB, ORDER_NR and ORDER_FU; 0 for ORDER_TRACE_SHORT, though as
@@ -107,7 +113,7 @@ enum {
     /* The kind of its access: ORDER_READ, ORDER_WRITE or ORDER_UPDATE. */
     ORDER_KIND = 5,
 
-    /* The location of its access, from 0. */
+    /* The location of its access, from 0: a named one, never that of the fences. */
     ORDER_LOCATION = 6,
 
     /* The smallest stale value of a witness of that thread: that of an older write that it reads, or comes directly
@@ -121,7 +127,7 @@ enum {
 /* The verdicts. */
 enum {
     /* Robust: every release/acquire run of the program, of any length, ends in thread states and an execution graph
-       that some SC run reaches too. */
+       that some SC run reaches too. So its accesses may be weakened; its fences stay full fences. */
     ORDER_RB = 0,
 
     /* Not robust: the trace has the steps of an SC run. They are a release/acquire run too, and there the named
@@ -151,7 +157,7 @@ enum {
     ORDER_LOCAL = 0,  /* L, a local line; only in a trace */
     ORDER_READ = 1,   /* R; a CAS that fails is one */
     ORDER_WRITE = 2,  /* W */
-    ORDER_UPDATE = 3  /* M, a read-modify-write */
+    ORDER_UPDATE = 3  /* M, a read-modify-write; a fence is one */
 };
 
 /* The bytes of a step in the trace, by their index. */
@@ -162,10 +168,11 @@ enum {
     /* ORDER_LOCAL, ORDER_READ, ORDER_WRITE or ORDER_UPDATE. */
     ORDER_STEP_KIND = 1,
 
-    /* The location of its access, from 0; 0 for ORDER_LOCAL. */
+    /* The location of its access, from 0: for a fence L, the one after the named ones; 0 for ORDER_LOCAL. */
     ORDER_STEP_LOCATION = 2,
 
-    /* For ORDER_READ the value read, for ORDER_WRITE and ORDER_UPDATE the value written; 0 for ORDER_LOCAL. */
+    /* For ORDER_READ the value read, for ORDER_WRITE and ORDER_UPDATE the value written, which is 0 for a fence; 0 for
+       ORDER_LOCAL. */
     ORDER_STEP_VALUE = 3,
 
     /* How many bytes a step has. */
@@ -179,8 +186,9 @@ enum {
  *
  * table, table_len: where the search writes a place for each situation that it meets. There are table_len divided by
  *     the size of a place of them, at most 1,000,000,000; for T threads and L locations a place has
- *     ORDER_PLACE_SIZE(T, L) bytes (T and L are bytes 2 and 3 of the program, from 0). Bytes past the places written
- *     stay as they are, and so do all where the bytes are no program.
+ *     ORDER_PLACE_SIZE(T, L) bytes (T and L are bytes 2 and 3 of the program, from 0), and where the program has a
+ *     fence ORDER_FENCED_PLACE_SIZE(T, L). Bytes past the places written stay as they are, and so do all where the
+ *     bytes are no program.
  *
  * trace, trace_len: for ORDER_NR its first ORDER_STEP_BYTES * answer[ORDER_STEPS] bytes get the steps of the run, one
  *     after the other; its other bytes stay as they are, and for every other verdict all of them do. A trace of

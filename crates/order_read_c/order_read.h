@@ -22,10 +22,11 @@ enum { ORDER_MAX_THREADS = 8 };
 
 /* What the bytes are. All numbers but the first are 0 where they are no program. */
 struct order_read_header {
-    /* 0 where they are a program, else the number of the first failed check, 1 to 9. */
+    /* 0 where they are a program, else the number of the first failed check, 1 to 9 or 12. */
     size_t number;
 
-    /* T, L and K. */
+    /* T, L and K. L is the number of named locations: that of the fences is not among them. A program has fences where
+       the op of some line is ORDER_FENCE; a place of the checker's table then counts one location more. */
     size_t threads;
     size_t locations;
     size_t values;
@@ -47,7 +48,8 @@ enum {
     ORDER_FADD = 7,
     ORDER_CAS = 8,
     ORDER_WAIT = 9,
-    ORDER_BCAS = 10
+    ORDER_BCAS = 10,
+    ORDER_FENCE = 11 /* it uses no field */
 };
 
 /* The kinds of an operand. */

@@ -5,7 +5,7 @@ use mathlib.Core.Path.{_≡_, sym}
 use mathlib.Core.List.{List}
 use lib.ListN.{length, getD, drop}
 use lib.Seq.{getD-drop}
-use Rattle.program.specs.Program.{Line, linesOf}
+use Rattle.program.specs.Program.{Line, linesOf, namedLocations}
 use Rattle.program.specs.Program.Operand.{constant}
 use Rattle.program.specs.Program.Line.{wait}
 use Rattle.program.specs.Ops.{opAt}
@@ -17,7 +17,7 @@ use Rattle.records.specs.declared.Fields.{Fields}
 use Rattle.program.proofs.Places.{LineStands, line-stands}
 
 module _ {bytes : List ℕ} {start k i t : ℕ} (l : LineAt bytes start k i t) where
-  stands : (other : Line) → LineStands (programOf bytes .locations) (programOf bytes .values) (length (linesOf
+  stands : (other : Line) → LineStands (namedLocations (programOf bytes)) (programOf bytes .values) (length (linesOf
       (programOf bytes) t)) bytes
       (startOf (programOf bytes .threads) t + sizeIN * i) (getD (linesOf (programOf bytes) t) i other)
   stands other = line-stands bytes (programOf bytes) (l .program) t i other (l .in-program) (l .in-lines)

@@ -7,7 +7,7 @@ use lib.Seq.{sets}
 use Rattle.limits.specs.Limits.{maxThreads}
 use Rattle.program.specs.Program.{Operand as ModelOperand, Line as ModelLine, Program, linesOf}
 use Rattle.program.specs.Program.Operand.{constant, register}
-use Rattle.program.specs.Program.Line.{sum, equal, less, jump, write, read, fadd, cas, wait, bcas}
+use Rattle.program.specs.Program.Line.{sum, equal, less, jump, write, read, fadd, cas, wait, bcas, fence}
 use Rattle.program.specs.Outcome.{Outcome}
 use Rattle.program.specs.Outcome.Outcome.{refused, accepted}
 use Rattle.program.specs.Format.{sizePR, readProgram, programOf}
@@ -19,7 +19,7 @@ use Rattle.format.specs.declared.Reading.{Reading}
 use Rattle.format.specs.declared.Operand.{Operand}
 use Rattle.format.specs.declared.Operand.the-variants.{Constant, Register}
 use Rattle.format.specs.declared.Line.{Line}
-use Rattle.format.specs.declared.Line.the-variants.{Sum, Equal, Less, Jump, Write, Read, Fadd, Cas, Wait, Bcas}
+use Rattle.format.specs.declared.Line.the-variants.{Sum, Equal, Less, Jump, Write, Read, Fadd, Cas, Wait, Bcas, Fence}
 
 -- The header of no program: 0 throughout.
 unfoldable pub noHeader : Header
@@ -32,7 +32,8 @@ noHeader =
       counts = replicate maxThreads 0;
     }
 
--- The header of a program: T, L, K, and for each thread where its lines start and how many there are, 0 past the last thread.
+-- The header of a program: T, the number of all its locations, K, and for each thread where its lines start and how many
+-- there are, 0 past the last thread.
 unfoldable pub headerOf : Program → Header
 headerOf p =
     record {
@@ -80,3 +81,4 @@ lineMeans (Fadd r x a) = fadd r x (operandMeans a)
 lineMeans (Cas r x a b) = cas r x (operandMeans a) (operandMeans b)
 lineMeans (Wait x a) = wait x (operandMeans a)
 lineMeans (Bcas x a b) = bcas x (operandMeans a) (operandMeans b)
+lineMeans Fence = fence

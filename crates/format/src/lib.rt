@@ -27,8 +27,9 @@ pub enum Check {
     Failed(u8),
 }
 
-// An accepted input: T, L, K, and for each thread the byte at which its lines start and how many there are, 0 past the
-// last thread. Its arrays are of short numbers, as the search copies them often.
+// An accepted input: T, the number of all locations that runs have (L, and one more where there is a fence), K, and for
+// each thread the byte at which its lines start and how many there are, 0 past the last thread. Its arrays are of short
+// numbers, as the search copies them often.
 pub struct Header {
     pub threads: usize,
     pub locations: usize,
@@ -97,6 +98,7 @@ pub enum Line {
         a: Operand,
         b: Operand,
     },
+    Fence,
 }
 
 // The header of no program.

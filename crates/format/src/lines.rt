@@ -1,8 +1,8 @@
 // The lines of a thread: their checks, and the line of a record that passed.
-use crate::Check;
 use crate::IN_SIZE;
 use crate::Line;
 use crate::Operand;
+use records::FENCE;
 use records::FIRST_REGISTER;
 use records::Fields;
 use records::are_operands;
@@ -11,68 +11,84 @@ use records::is_op;
 use records::is_record;
 use records::is_reg_and_rest;
 use records::is_target;
+use records::leaves_room;
 use records::row_of;
 ghost use mathlib.Core.Path.{_≡_};
 ghost use Prim.Native.Nat.{_≤_};
 ghost use lib.ListN.{length, drop};
+ghost use Rattle.program.specs.Program.{isFence};
 ghost use Rattle.program.specs.Ops.{opAt};
 ghost use Rattle.program.specs.Format.{operand, fieldsToLine, readLine, readLines};
 ghost use Rattle.format.specs.Answer.{operandMeans, lineMeans};
-ghost use Rattle.format.specs.Inner.{checkOf};
+ghost use Rattle.format.specs.Inner.{foundOf, lineIsFence, linesHaveFence};
 
-// Checks 5 to 8 of the fields of a line.
-fn check_fields(f: Fields, l: u8, k: u8, n: u8) -> Check
-    ensures { λ r. ⌜ r ≡ checkOf (fieldsToLine l k n (f .op) (f .reg) (f .target) (f .a) (f .b)) ⌝ }
+// What the checks of a line, or of several, find: whether a fence is there, or the check that failed.
+pub enum Found {
+    Fenced(bool),
+    Failed(u8),
+}
+
+// Checks 5 to 8 of the fields of a line, with 12 directly after 5.
+fn check_fields(f: Fields, l: u8, k: u8, n: u8) -> Found
+    ensures { λ r. ⌜ r ≡ foundOf isFence (fieldsToLine l k n (f .op) (f .reg) (f .target) (f .a) (f .b)) ⌝ }
 {
     let op = f.op;
     if !is_op(op) {
-        return Check::Failed(5);
+        return Found::Failed(5);
     }
+    let room = leaves_room(l, op);
     let r = row_of(op);
-    if !is_reg_and_rest(r, f) {
-        return Check::Failed(6);
+    let rest = is_reg_and_rest(r, f);
+    // Of the two tests that were made, 12 is asked first.
+    if !room {
+        return Found::Failed(12);
+    }
+    if !rest {
+        return Found::Failed(6);
     }
     let target = r.target;
     if !is_target(target, l, n, f.target) {
-        return Check::Failed(7);
+        return Found::Failed(7);
     }
     if !are_operands(r, f, k) {
-        return Check::Failed(8);
+        return Found::Failed(8);
     }
-    Check::Passed
+    Found::Fenced(op == FENCE)
 }
 
-// Check 3, then checks 5 to 8, of the line that is due at the cursor.
-fn check_line(bytes: &[u8], at: usize, l: u8, k: u8, n: u8) -> Check
+// Check 3, then those of the fields, of the line that is due at the cursor.
+fn check_line(bytes: &[u8], at: usize, l: u8, k: u8, n: u8) -> Found
     requires { ⌜ at ≤ length (now bytes) ⌝ }
-    ensures { λ r. ⌜ r ≡ checkOf (readLine l k n (drop at (now (bytes .entry)))) ⌝ }
+    ensures { λ r. ⌜ r ≡ foundOf lineIsFence (readLine l k n (drop at (now (bytes .entry)))) ⌝ }
 {
     if !is_record(bytes, at, b"IN", IN_SIZE) {
-        return Check::Failed(3);
+        return Found::Failed(3);
     }
     check_fields(fields_at(bytes, at), l, k, n)
 }
 
 // All n lines of a thread, from the cursor.
-pub fn check_lines(bytes: &[u8], at: usize, l: u8, k: u8, n: u8) -> Check
+pub fn check_lines(bytes: &[u8], at: usize, l: u8, k: u8, n: u8) -> Found
     requires { ⌜ at ≤ length (now bytes) ⌝ }
-    ensures { λ r. ⌜ r ≡ checkOf (readLines l k n n (drop at (now (bytes .entry)))) ⌝ }
+    ensures { λ r. ⌜ r ≡ foundOf linesHaveFence (readLines l k n n (drop at (now (bytes .entry)))) ⌝ }
 {
+    let mut fenced = false;
     let mut next = at;
     let mut left = n;
     while 0 < left {
         let line = check_line(bytes, next, l, k, n);
         match line {
-            Check::Failed(number) => {
-                return Check::Failed(number);
+            Found::Failed(number) => {
+                return Found::Failed(number);
             }
-            Check::Passed => {
+            Found::Fenced(fence) => {
+                fenced = fenced | fence;
                 next = next + IN_SIZE;
                 left = left - 1;
             }
         }
     }
-    Check::Passed
+    Found::Fenced(fenced)
 }
 
 // An operand among k values. (A byte between the values and the registers stands for none, and is never used.)
@@ -133,6 +149,7 @@ pub fn decode(f: Fields, k: usize) -> Line
             a,
             b,
         },
+        11 => Line::Fence,
         _ => Line::Sum { reg, a, b },
     }
 }

@@ -10,6 +10,7 @@ pub mod NewEdges
 pub mod Decidable
 pub mod Choices
 pub mod Reachable
+pub mod FenceLocation
 pub mod Schedules
 pub mod Labels
 pub mod Shown

@@ -29,7 +29,8 @@ pub past-threads-ended : (p : Program) (t : ℕ) (q : ThreadState) → (t < leng
     → nextLine p t q ≡ ended
 unfolding nextLine doesAt
 past-threads-ended p t q n =
-    ap (λ ls. doesAt (p .values) (getElem? ls (q .line)) q) (List·getD-eq-default (p .threads) [] (omega arith))
+    ap (λ ls. doesAt (p .values) (p .locations) (getElem? ls (q .line)) q)
+    (List·getD-eq-default (p .threads) [] (omega arith))
 
 pub has-thread : (p : Program) (t : ℕ) (q : ThreadState) → (nextLine p t q ≡ ended → ⊥) → t < length (p .threads)
 has-thread p t q n = go (decLt t (length (p .threads)))

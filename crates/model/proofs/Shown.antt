@@ -7,6 +7,7 @@ use mathlib.Core.Option.{Option, none, some, Option·none-ne-some}
 use lib.Dec.{eqb}
 use borrow.Author.Tests.{eqb-true}
 use Rattle.program.specs.Program.{Program, Operand, sum, equal, less, jump, write, read, fadd, cas, wait, bcas}
+use Rattle.program.specs.Program.{fence, fenceLocation}
 use Rattle.program.specs.Thread.{ThreadState, operand, onward, load, reads, writes, updates, Effect, nextLine, does}
 use Rattle.program.specs.Thread.{local, access}
 use Rattle.program.specs.declared.Kind.the-variants.{Read, Write, Update}
@@ -22,30 +23,30 @@ unfolding stepLabel
 local-line-shows-local (localStep q l e) is = refl
 local-line-shows-local (accessStep a r e) is = absurd (let z : _≡_ {A = ℕ} 0 1 = cc (a .line) in omega arith)
 
-module _ {p : Program} {rule : Rule} {t : ℕ} {s s′ : State} (K : ℕ) (k : Step p rule t s s′) where
+module _ {p : Program} {rule : Rule} {t : ℕ} {s s′ : State} (K L : ℕ) (k : Step p rule t s s′) where
   -- "L 0 0 for a local line": a jump, taken or not, and the sums and comparisons.
-  pub jump-is-local : (target : ℕ) (a : Operand) → nextLine p t (threadOf s t) ≡ does K (jump target a) (threadOf s t)
+  pub jump-is-local : (target : ℕ) (a : Operand) → nextLine p t (threadOf s t) ≡ does K L (jump target a) (threadOf s t)
       → stepLabel k ≡ Local
   unfolding does
   jump-is-local target a = local-line-shows-local k
 
-  pub sum-is-local : (r : ℕ) (a b : Operand) → nextLine p t (threadOf s t) ≡ does K (sum r a b) (threadOf s t)
+  pub sum-is-local : (r : ℕ) (a b : Operand) → nextLine p t (threadOf s t) ≡ does K L (sum r a b) (threadOf s t)
       → stepLabel k ≡ Local
   unfolding does
   sum-is-local r a b = local-line-shows-local k
 
-  pub equal-is-local : (r : ℕ) (a b : Operand) → nextLine p t (threadOf s t) ≡ does K (equal r a b) (threadOf s t)
+  pub equal-is-local : (r : ℕ) (a b : Operand) → nextLine p t (threadOf s t) ≡ does K L (equal r a b) (threadOf s t)
       → stepLabel k ≡ Local
   unfolding does
   equal-is-local r a b = local-line-shows-local k
 
-  pub less-is-local : (r : ℕ) (a b : Operand) → nextLine p t (threadOf s t) ≡ does K (less r a b) (threadOf s t)
+  pub less-is-local : (r : ℕ) (a b : Operand) → nextLine p t (threadOf s t) ≡ does K L (less r a b) (threadOf s t)
       → stepLabel k ≡ Local
   unfolding does
   less-is-local r a b = local-line-shows-local k
 
 -- A step by an access shows the event that it makes.
-module _ {p : Program} {s : State} {t : ℕ} (K : ℕ) (m : Access p s t) where
+module _ {p : Program} {s : State} {t : ℕ} (K L : ℕ) (m : Access p s t) where
   -- The value of the write that it picks.
   abbrev found : ℕ
   found = valueOf (s .graph) (m .picked)
@@ -63,25 +64,31 @@ module _ {p : Program} {s : State} {t : ℕ} (K : ℕ) (m : Access p s t) where
       λ i. labelOf (eventOf (does-it i .action) (at i) found (m .picked))
 
   -- "W .. with the value written".
-  pub write-shows-its-value : (x : ℕ) (a : Operand) → nextLine p t state ≡ does K (write x a) state
+  pub write-shows-its-value : (x : ℕ) (a : Operand) → nextLine p t state ≡ does K L (write x a) state
       → labelOf (eventMade m) ≡ shows Write x (operand state a)
   unfolding does labelOf eventOf
   write-shows-its-value x a line = shown-by-line line refl
 
   -- "R with the value read".
-  pub read-shows-what-it-read : (r x : ℕ) → nextLine p t state ≡ does K (read r x) state
+  pub read-shows-what-it-read : (r x : ℕ) → nextLine p t state ≡ does K L (read r x) state
       → labelOf (eventMade m) ≡ shows Read x found
   unfolding does labelOf eventOf
   read-shows-what-it-read r x line = shown-by-line line refl
 
   -- "add A modulo K": M with the sum.
-  pub fadd-shows-the-sum : (r x : ℕ) (a : Operand) → nextLine p t state ≡ does K (fadd r x a) state
+  pub fadd-shows-the-sum : (r x : ℕ) (a : Operand) → nextLine p t state ≡ does K L (fadd r x a) state
       → labelOf (eventMade m) ≡ shows Update x ((found + operand state a) % K)
   unfolding does labelOf eventOf
   fadd-shows-the-sum r x a line = shown-by-line line refl
 
+  -- "FADD of 0 on a location of its own": M with what it found, modulo K.
+  pub fence-shows-its-location : nextLine p t state ≡ does K L fence state
+      → labelOf (eventMade m) ≡ shows Update (fenceLocation L) ((found + 0) % K)
+  unfolding does labelOf eventOf
+  fence-shows-its-location line = shown-by-line line refl
+
   -- "A failed CAS is a plain read": R with the value found; else M with B.
-  pub failed-cas-shows-what-it-found : (r x : ℕ) (a b : Operand) → nextLine p t state ≡ does K (cas r x a b) state
+  pub failed-cas-shows-what-it-found : (r x : ℕ) (a b : Operand) → nextLine p t state ≡ does K L (cas r x a b) state
       → eqb found (operand state a) ≡ false → labelOf (eventMade m) ≡ shows Read x found
   unfolding does labelOf eventOf
   failed-cas-shows-what-it-found r x a b line other =
@@ -90,7 +97,7 @@ module _ {p : Program} {s : State} {t : ℕ} (K : ℕ) (m : Access p s t) where
       (λ (q : Bool). some (record { action = cond q (updates (operand state b)) reads; after = load state r found }))
       other)
 
-  pub cas-shows-what-it-wrote : (r x : ℕ) (a b : Operand) → nextLine p t state ≡ does K (cas r x a b) state
+  pub cas-shows-what-it-wrote : (r x : ℕ) (a b : Operand) → nextLine p t state ≡ does K L (cas r x a b) state
       → eqb found (operand state a) ≡ true → labelOf (eventMade m) ≡ shows Update x (operand state b)
   unfolding does labelOf eventOf
   cas-shows-what-it-wrote r x a b line same =
@@ -114,7 +121,7 @@ module _ {p : Program} {s : State} {t : ℕ} (K : ℕ) (m : Access p s t) where
           (sym (ap (λ (b : Bool). cond b (some e) none) is) ∙ sym (ap (λ (f : ℕ → Option Effect). f found) same) ∙ m .allows))
 
   -- A wait shows R with its value, a blocking CAS M with B.
-  pub wait-shows-its-value : (x : ℕ) (a : Operand) → nextLine p t state ≡ does K (wait x a) state
+  pub wait-shows-its-value : (x : ℕ) (a : Operand) → nextLine p t state ≡ does K L (wait x a) state
       → labelOf (eventMade m) ≡ shows Read x (operand state a)
   unfolding does labelOf eventOf
   wait-shows-its-value x a line =
@@ -123,7 +130,7 @@ module _ {p : Program} {s : State} {t : ℕ} (K : ℕ) (m : Access p s t) where
       shown-by-line line (ap (λ (q : Bool). cond q (some e) none) same)
       ∙ ap (shows Read x) (eqb-true found (operand state a) same)
 
-  pub bcas-shows-what-it-wrote : (x : ℕ) (a b : Operand) → nextLine p t state ≡ does K (bcas x a b) state
+  pub bcas-shows-what-it-wrote : (x : ℕ) (a b : Operand) → nextLine p t state ≡ does K L (bcas x a b) state
       → labelOf (eventMade m) ≡ shows Update x (operand state b)
   unfolding does labelOf eventOf
   bcas-shows-what-it-wrote x a b line =

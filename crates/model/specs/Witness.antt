@@ -1,8 +1,8 @@
--- Witnesses: document 01, section "Graphs".
-use Prim.Native.Nat.{ℕ}
+-- Witnesses: document 01, section "Graphs", and document 02, Point 5.
+use Prim.Native.Nat.{ℕ, _<_}
 use mathlib.Core.Path.{_≡_}
 use mathlib.Core.List.{List, [], _∷_, _++_, List·Memᴰ as Member}
-use Rattle.program.specs.Program.{Program}
+use Rattle.program.specs.Program.{Program, namedLocations}
 use Rattle.program.specs.Thread.{kindOf}
 use Rattle.program.specs.declared.Kind.{Kind}
 use Rattle.model.specs.Graph.{Id, threadEvents, valueOf}
@@ -33,3 +33,10 @@ pub record Witness (p : Program) (s : State) (t : ℕ) (kind : Kind) (x u : ℕ)
 abbrev pub NoWitness : Program → Type 0
 NoWitness p =
     (schedule : List ℕ) (s : State) (t : ℕ) (kind : Kind) (x u : ℕ) → ScRun p schedule s → Witness p s t kind x u → ⊥
+
+-- A fence's location "is never the one named in an NR line": each witness in a state reached by SC steps is at a named
+-- location.
+abbrev pub NamedOnly : Program → Type 0
+NamedOnly p =
+    (schedule : List ℕ) (s : State) (t : ℕ) (kind : Kind) (x u : ℕ) → ScRun p schedule s → Witness p s t kind x u
+    → x < namedLocations p

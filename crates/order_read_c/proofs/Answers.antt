@@ -10,26 +10,44 @@ use Rattle.program.specs.Program.Operand.{constant}
 use Rattle.program.specs.Program.Line.{wait}
 use Rattle.program.specs.Outcome.{Outcome}
 use Rattle.program.specs.Outcome.Outcome.{refused, accepted}
-use Rattle.program.specs.Format.{readProgram, programOf}
+use Rattle.program.specs.Format.{sizePR, readProgram, programOf}
+use Rattle.program.proofs.RoundTrip.{named-in-header}
 use Rattle.format.specs.Answer.{Accepted, reading}
 use Rattle.format.specs.declared.Check.the-variants.{Passed, Failed}
 use Rattle.format.specs.declared.Header.{Header}
 use Rattle.format.specs.declared.Reading.{Reading}
-use Rattle.format.proofs.AcceptedHeader.{threads-counted, lines-counted}
-use Rattle.order_read_c.specs.Answer.{numberOf, withHeader, headerAnswer, noLine, lineFields, lineAnswer}
+use Rattle.format.proofs.AcceptedHeader.{passed-is-accepted, threads-counted, lines-counted}
+use Rattle.order_read_c.specs.Answer.{numberOf, namedIn, withHeader, headerAnswer}
+use Rattle.order_read_c.specs.Answer.{noLine, lineFields, lineAnswer}
 use Rattle.order_read_c.specs.declared.HeaderAnswer.{HeaderAnswer}
 use Rattle.order_read_c.specs.declared.LineAnswer.{LineAnswer}
 
-header-of-outcome : (o : Outcome Program) → withHeader (numberOf (reading o .check))
+header-of-outcome : (o : Outcome Program) → withHeader (numberOf (reading o .check)) (namedIn o)
     (reading o .header) ≡ headerAnswer o
-unfolding reading numberOf headerAnswer
+unfolding reading numberOf namedIn headerAnswer
 header-of-outcome (refused k) = refl
 header-of-outcome (accepted p) = refl
 
 pub header-answered : (bytes : List ℕ) (r : Reading) → r ≡ reading (readProgram bytes)
-    → withHeader (numberOf (r .check)) (r .header) ≡ headerAnswer (readProgram bytes)
+    → withHeader (numberOf (r .check)) (namedIn (readProgram bytes)) (r .header) ≡ headerAnswer (readProgram bytes)
 header-answered bytes r e =
-    ap (λ (x : Reading). withHeader (numberOf (x .check)) (x .header)) e ∙ header-of-outcome (readProgram bytes)
+    ap (λ (x : Reading). withHeader (numberOf (x .check)) (namedIn (readProgram bytes)) (x .header)) e
+    ∙ header-of-outcome (readProgram bytes)
+
+-- Where the check passed, byte 3 is L.
+pub named-stands : (bytes : List ℕ) → reading (readProgram bytes) .check ≡ Passed
+    → (sizePR ≤ length bytes) × (getD bytes 3 0 ≡ namedIn (readProgram bytes))
+unfolding namedIn
+named-stands bytes passed =
+    let is = passed-is-accepted bytes (reading (readProgram bytes)) refl passed in
+    let (whole, named) = named-in-header bytes (programOf bytes) (is .program) in
+    (whole, named ∙ sym (ap namedIn (is .program)))
+
+-- Where it failed, L is 0.
+pub none-named : (o : Outcome Program) {k : ℕ} → reading o .check ≡ Failed k → 0 ≡ namedIn o
+unfolding reading namedIn
+none-named (refused k) e = refl
+none-named (accepted p) e = absurd (let z : _≡_ {A = ℕ} 0 1 = cc in omega arith)
 
 none-of-outcome : (o : Outcome Program) (t i : ℕ) {k : ℕ} → reading o .check ≡ Failed k → noLine ≡ lineAnswer o t i
 unfolding reading lineAnswer

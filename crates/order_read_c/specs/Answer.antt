@@ -4,9 +4,10 @@ use mathlib.Core.Bool.{Bool, cond, _&&_}
 use mathlib.Core.List.{List}
 use lib.ListN.{length, getD}
 use lib.Dec.{ltb}
-use Rattle.program.specs.Program.{Operand, Line, Program, linesOf}
+use Rattle.program.specs.Program.{Operand, Line, Program, linesOf, namedLocations}
 use Rattle.program.specs.Program.Operand.{constant, register}
-use Rattle.program.specs.Program.Line.{sum, equal, less, jump, write, read, fadd, cas, wait, bcas}
+use Rattle.program.specs.Program.Line.{sum, equal, less, jump, write, read, fadd, cas, wait, bcas, fence}
+use Rattle.program.specs.Ops.{fenceOp}
 use Rattle.program.specs.Outcome.{Outcome}
 use Rattle.program.specs.Outcome.Outcome.{refused, accepted}
 use Rattle.format.specs.Answer.{noHeader, headerOf}
@@ -22,21 +23,26 @@ unfoldable pub numberOf : Check → ℕ
 numberOf Passed = 0
 numberOf (Failed number) = number
 
--- The number and the header.
-abbrev pub withHeader : ℕ → Header → HeaderAnswer
-withHeader number h =
+-- L, the number of the named locations; 0 where the input is refused.
+unfoldable pub namedIn : Outcome Program → ℕ
+namedIn (refused number) = 0
+namedIn (accepted p) = namedLocations p
+
+-- The number, L, and the rest of the header.
+abbrev pub withHeader : (number L : ℕ) → Header → HeaderAnswer
+withHeader number L h =
     record {
       number = number;
       threads = h .threads;
-      locations = h .locations;
+      locations = L;
       values = h .values;
       starts = h .starts;
       counts = h .counts;
     }
 
 unfoldable pub headerAnswer : Outcome Program → HeaderAnswer
-headerAnswer (refused number) = withHeader number noHeader
-headerAnswer (accepted p) = withHeader 0 (headerOf p)
+headerAnswer (refused number) = withHeader number 0 noHeader
+headerAnswer (accepted p) = withHeader 0 (namedLocations p) (headerOf p)
 
 -- An operand: kind 1 for a constant, 2 for a register; kind 0 for none.
 abbrev pub noOperand : OperandAnswer
@@ -66,6 +72,7 @@ lineFields (fadd r x a) = makeLine 7 r x (operandAnswer a) noOperand
 lineFields (cas r x a b) = makeLine 8 r x (operandAnswer a) (operandAnswer b)
 lineFields (wait x a) = makeLine 9 0 x (operandAnswer a) noOperand
 lineFields (bcas x a b) = makeLine 10 0 x (operandAnswer a) (operandAnswer b)
+lineFields fence = makeLine fenceOp 0 0 noOperand noOperand
 
 -- Line i of thread t, where the program is accepted and has one. (The line that getD would give past the end is never taken.)
 unfoldable pub lineAnswer : Outcome Program → (t i : ℕ) → LineAnswer

@@ -4,16 +4,16 @@ use format::Line;
 use format::Operand;
 ghost use mathlib.Core.Path.{_≡_};
 ghost use Rattle.program.specs.Format.{readProgram};
-ghost use Rattle.format.specs.Answer.{operandMeans, lineMeans};
-ghost use Rattle.order_read_c.specs.Answer.{numberOf, headerAnswer, noOperand, operandAnswer, makeLine};
-ghost use Rattle.order_read_c.specs.Answer.{noLine, lineFields, lineAnswer};
+ghost use Rattle.format.specs.Answer.{reading, operandMeans, lineMeans};
+ghost use Rattle.order_read_c.specs.Answer.{numberOf, namedIn, headerAnswer, noOperand, operandAnswer};
+ghost use Rattle.order_read_c.specs.Answer.{makeLine, noLine, lineFields, lineAnswer};
 
 // The answer of order_read: the number of the failed check, or 0 and the program's header.
 #[repr(C)]
 pub struct HeaderAnswer {
-    // 0 where the input is accepted, else the number of the first failed check, 1 to 9.
+    // 0 where the input is accepted, else the number of the first failed check, 1 to 9 or 12.
     pub number: usize,
-    // T, L and K; 0 where the input is refused.
+    // T, L (the named locations, without the fence's) and K; 0 where the input is refused.
     pub threads: usize,
     pub locations: usize,
     pub values: usize,
@@ -61,6 +61,17 @@ fn widened(short: [u16; limits::THREADS]) -> [usize; limits::THREADS]
     long
 }
 
+// L of an input with its check: the locations that the header names.
+fn named_in(program: &[u8], check: Check) -> usize
+    requires { ⌜ check ≡ reading (readProgram (now program)) .check ⌝ }
+    ensures { λ r. ⌜ r ≡ namedIn (readProgram (now (program .entry))) ⌝ }
+{
+    match check {
+        Check::Passed => program[3] as usize,
+        Check::Failed(_) => 0,
+    }
+}
+
 // Reads any input.
 #[no_mangle]
 pub extern "C" fn order_read(program: &[u8]) -> HeaderAnswer
@@ -69,6 +80,7 @@ pub extern "C" fn order_read(program: &[u8]) -> HeaderAnswer
     let reading = format::read(program);
     let check = reading.check;
     let header = reading.header;
+    let named = named_in(program, check);
     let short_starts = header.starts;
     let short_counts = header.counts;
     let starts = widened(short_starts);
@@ -76,7 +88,7 @@ pub extern "C" fn order_read(program: &[u8]) -> HeaderAnswer
     HeaderAnswer {
         number: failed(check),
         threads: header.threads,
-        locations: header.locations,
+        locations: named,
         values: header.values,
         starts,
         counts,
@@ -133,6 +145,7 @@ fn fields_of(line: Line) -> LineAnswer
         } => make_line(8, reg, location, operand_of(a), operand_of(b)),
         Line::Wait { location, a } => make_line(9, 0, location, operand_of(a), none),
         Line::Bcas { location, a, b } => make_line(10, 0, location, operand_of(a), operand_of(b)),
+        Line::Fence => make_line(11, 0, 0, none, none),
     }
 }
 

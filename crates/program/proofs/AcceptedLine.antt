@@ -13,17 +13,18 @@ use Rattle.program.specs.Program.{Line}
 use Rattle.program.specs.Outcome.Outcome.{accepted}
 use Rattle.program.specs.Ops.{isOp, opAt}
 use Rattle.program.specs.Format.{markIN, sizeIN, isRecord, isOperand, operand, whenUsed, zeroUnlessUsed}
-use Rattle.program.specs.Format.{usesTarget, isRegAndRest, isTarget, areOperands, fieldsToLine, readLine}
+use Rattle.program.specs.Format.{usesTarget, isRegAndRest, isTarget, areOperands, leavesRoom, fieldsToLine, readLine}
 use Rattle.program.specs.Spelling.{lineRecord, spellLine}
-use Rattle.program.specs.Within.{LineWithin}
+use Rattle.program.specs.Within.{LineNamed}
 use Rattle.program.proofs.OutcomeLaws.{accepted-injective, check-accepted, andThen-accepted}
 use Rattle.program.proofs.RecordLaws.{record-stands}
 use Rattle.program.proofs.FieldLaws.{operand-within, field-kept, operand-kept, when-used}
 use Rattle.program.proofs.RowLaws.{row-spelled, row-within}
 
--- What checks 5 to 8 of five fields give, and the line that the fields are.
+-- What checks 5 to 8 and 12 of five fields give, and the line that the fields are.
 pub record FieldsRead (L K n op reg target a b : ℕ) (line : Line) : Type 0 where
   pub known : isOp op ≡ true
+  pub room : leavesRoom L op ≡ true
   pub reg-in-range : whenUsed (opAt op .reg) (ltb reg registers) ≡ true
   pub reg-unused-is-zero : zeroUnlessUsed (opAt op .reg) reg ≡ true
   pub target-unused-is-zero : zeroUnlessUsed (usesTarget (opAt op .target)) target ≡ true
@@ -40,7 +41,8 @@ unfolding fieldsToLine isRegAndRest areOperands
 fields-read L K n op reg target a b e =
     let o = opAt op in
     let five = check-accepted _ _ _ e in
-    let six = check-accepted _ _ _ (five .1) in
+    let twelve = check-accepted _ _ _ (five .1) in
+    let six = check-accepted _ _ _ (twelve .1) in
     let seven = check-accepted _ _ _ (six .1) in
     let eight = check-accepted _ _ _ (seven .1) in
     let zero-reg = zeroUnlessUsed (o .reg) reg in
@@ -54,6 +56,7 @@ fields-read L K n op reg target a b e =
     let used = and-eq-true-iff (whenUsed (o .a) (isOperand K a)) (whenUsed (o .b) (isOperand K b)) .0 (eight .0) in
     record {
       known = five .0;
+      room = twelve .0;
       reg-in-range = from-reg .0;
       reg-unused-is-zero = from-zero .0;
       target-unused-is-zero = from-target .0;
@@ -79,10 +82,11 @@ module _ {L K n op reg target a b : ℕ} {line : Line} where
         operand-kept (o .b) K b (f .b-unused-is-zero) (f .b-in-range),
       )
 
-  pub fields-within : FieldsRead L K n op reg target a b line → LineWithin L K n line
+  pub fields-within : FieldsRead L K n op reg target a b line → LineNamed L K n line
   fields-within f =
       let o = opAt op in
       rw (f .made) (row-within L K n reg target (operand K a) (operand K b) op (f .known)
+      (f .room)
       (λ used. ltb-true reg registers (when-used (o .reg) (ltb reg registers) (f .reg-in-range) used))
       (f .target-in-range)
       (λ used. operand-within K a (when-used (o .a) (isOperand K a) (f .a-in-range) used))
@@ -110,7 +114,7 @@ pub record LineRead (L K n : ℕ) (bytes : List ℕ) (line : Line) (rest : List 
   pub after : rest ≡ drop sizeIN bytes
   pub fields :
       FieldsRead L K n (getD bytes 2 0) (getD bytes 3 0) (getD bytes 4 0) (getD bytes 5 0) (getD bytes 6 0) line
-  pub within : LineWithin L K n line
+  pub within : LineNamed L K n line
   pub spelled : bytes ≡ spellLine line ++ rest
 
 pub line-read : (L K n : ℕ) (bytes : List ℕ) {got : Line × List ℕ}

@@ -12,7 +12,7 @@ use Rattle.program.specs.Program.{Line}
 use Rattle.program.specs.Outcome.Outcome.{accepted}
 use Rattle.program.specs.Format.{markTH, sizeTH, sizeIN, isRecord, readLines, readThread, readThreads}
 use Rattle.program.specs.Spelling.{spellLine, spellLines, spellThread, spellThreads}
-use Rattle.program.specs.Within.{LineWithin, ThreadWithin}
+use Rattle.program.specs.Within.{LineNamed, ThreadWithin}
 use Rattle.program.specs.Within.{All}
 use Rattle.program.specs.Within.All.{none, more}
 use Rattle.program.proofs.OutcomeLaws.{accepted-injective, check-accepted}
@@ -27,13 +27,13 @@ pub record LinesRead (L K n count : ℕ) (bytes : List ℕ) (lines : List Line) 
   pub counted : length lines ≡ count
   pub whole : count * sizeIN ≤ length bytes
   pub after : rest ≡ drop (count * sizeIN) bytes
-  pub within : All (LineWithin L K n) lines
+  pub within : All (LineNamed L K n) lines
   pub spelled : bytes ≡ spellLines lines ++ rest
 
 -- The places follow from the spelling.
 lines-placed : {L K n count : ℕ} {bytes rest : List ℕ} (lines : List Line)
     → length lines ≡ count
-    → All (LineWithin L K n) lines
+    → All (LineNamed L K n) lines
     → bytes ≡ spellLines lines ++ rest
     → LinesRead L K n count bytes lines rest
 lines-placed {rest} lines counted within spelled =

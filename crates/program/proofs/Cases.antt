@@ -1,15 +1,15 @@
--- Cases of document 01 that the reader decides, the locations of document 02, Point 3, and inputs with two faults, of
--- which the first check in document 01's order wins. One table, one computed test over it.
+-- Cases of document 01 that the reader decides, the locations and the fence of document 02, Points 3 and 5, and inputs with
+-- two faults, of which the first check in the documents' order wins. One table, one computed test over it.
 use Prim.Native.Nat.{ℕ}
 use mathlib.Core.Path.{_≡_, refl}
 use mathlib.Core.Bool.{Bool, true, _&&_}
 use mathlib.Core.List.{List, [], _∷_, _++_}
 use lib.Dec.{eqb}
-use Rattle.program.specs.Program.{Program}
+use Rattle.program.specs.Program.{Program, isFence, anyIs, fenceLocations}
 use Rattle.program.specs.Outcome.{Outcome, refused, accepted, check, andThen}
 use Rattle.program.specs.Ops.{isOp, opAt, opTable, sumOp}
 use Rattle.program.specs.Format.{markPR, markTH, startsWith, isRecord, isOperand, operand, whenUsed}
-use Rattle.program.specs.Format.{zeroUnlessUsed, usesTarget, isRegAndRest, isTarget, areOperands}
+use Rattle.program.specs.Format.{zeroUnlessUsed, usesTarget, isRegAndRest, isTarget, areOperands, leavesRoom}
 use Rattle.program.specs.Format.{fieldsToLine, readLine, readLines, readThread, readThreads, areInRange}
 use Rattle.program.specs.Format.{endsAfter, readProgram}
 use Rattle.program.specs.Spelling.{lineRecord}
@@ -37,6 +37,10 @@ thread n = markTH ++ n ∷ []
 abbrev oneLine : List ℕ → List ℕ
 oneLine line = header 1 1 2 ++ thread 1 ++ line
 
+-- The same among L locations.
+abbrev oneLineAmong : (L : ℕ) → List ℕ → List ℕ
+oneLineAmong L line = header 1 L 2 ++ thread 1 ++ line
+
 abbrev cases : List Case
 cases =
     -- "Empty input: 1."
@@ -56,6 +60,16 @@ cases =
     ∷ case (header 1 17 2 ++ thread 0) 2
     ∷ case (header 1 16 2 ++ thread 1 ++ lineRecord 5 0 15 1 0) 0
     ∷ case (header 1 16 2 ++ thread 1 ++ lineRecord 5 0 16 1 0) 7
+    -- "12 when op 11 stands in a program whose L is 16": not at 15, and no other op
+    ∷ case (oneLineAmong 15 (lineRecord 11 0 0 0 0)) 0
+    ∷ case (oneLineAmong 16 (lineRecord 11 0 0 0 0)) 12
+    ∷ case (oneLineAmong 16 (lineRecord 10 0 0 0 0)) 0
+    -- a line that names the fence's location, L
+    ∷ case (header 1 1 2 ++ thread 2 ++ lineRecord 11 0 0 0 0 ++ lineRecord 5 0 1 0 0) 7
+    -- 5 before 12: an unknown op. 12 before 6, "directly after check 5": a field that a fence does not use
+    ∷ case (oneLineAmong 16 (lineRecord 12 0 0 0 0)) 5
+    ∷ case (oneLineAmong 16 (lineRecord 11 1 0 0 0)) 12
+    ∷ case (oneLineAmong 15 (lineRecord 11 1 0 0 0)) 6
     -- 1 before 2: a header cut short, of nine threads
     ∷ case (markPR ++ 9 ∷ 1 ∷ []) 1
     -- 2 before 3: no locations, and no thread
@@ -65,9 +79,9 @@ cases =
     -- 4 before 3: too many lines, none of which is there
     ∷ case (header 1 1 2 ++ thread 65) 4
     -- 3 before 5: a line cut short, with an unknown op
-    ∷ case (oneLine (73 ∷ 78 ∷ 11 ∷ 0 ∷ 0 ∷ 0 ∷ [])) 3
+    ∷ case (oneLine (73 ∷ 78 ∷ 12 ∷ 0 ∷ 0 ∷ 0 ∷ [])) 3
     -- 5 before 6: an unknown op, with a wrong reg
-    ∷ case (oneLine (lineRecord 11 4 0 0 0)) 5
+    ∷ case (oneLine (lineRecord 12 4 0 0 0)) 5
     -- 6 before 7: a wrong reg, and a location that is not there
     ∷ case (oneLine (lineRecord 6 4 1 0 0)) 6
     -- 6 before 7: an unused field that is not 0, and a location that is not there
@@ -77,7 +91,7 @@ cases =
     -- 8 before 9: register 4, and a byte too many
     ∷ case (oneLine (lineRecord 5 0 0 132 0) ++ 0 ∷ []) 8
     -- a fault in an earlier line before any in a later one
-    ∷ case (header 1 1 2 ++ thread 2 ++ lineRecord 5 0 0 2 0 ++ lineRecord 11 0 0 0 0) 8
+    ∷ case (header 1 1 2 ++ thread 2 ++ lineRecord 5 0 0 2 0 ++ lineRecord 12 0 0 0 0) 8
     -- a fault in an earlier thread before one in a later one
     ∷ case (header 2 1 2 ++ thread 1 ++ lineRecord 5 0 0 2 0 ++ thread 65) 8
     ∷ []
@@ -88,5 +102,31 @@ passes (c ∷ cs) = eqb (number (readProgram (c .bytes))) (c .gets) && passes cs
 
 pub every-case : passes cases ≡ true
 unfolding readProgram isRecord startsWith areInRange endsAfter readThreads readThread readLines readLine fieldsToLine check
-    andThen isOp opAt opTable sumOp isRegAndRest isTarget areOperands whenUsed zeroUnlessUsed usesTarget isOperand operand
+    andThen isOp opAt opTable sumOp isRegAndRest isTarget areOperands whenUsed zeroUnlessUsed usesTarget isOperand operand leavesRoom
 every-case = refl
+
+-- The locations of the program, 0 where the input is refused.
+abbrev locations : Outcome Program → ℕ
+locations (refused k) = 0
+locations (accepted p) = p .locations
+
+-- "when the program has an op 11" it has a location more than L: inputs and the number of all their locations.
+abbrev fenced : List Case
+fenced =
+    case (header 1 3 2 ++ thread 1 ++ lineRecord 10 0 0 0 0) 3
+    ∷ case (header 1 3 2 ++ thread 1 ++ lineRecord 11 0 0 0 0) 4
+    -- one location for all fences
+    ∷ case (header 2 3 2 ++ thread 1 ++ lineRecord 11 0 0 0 0 ++ thread 1 ++ lineRecord 11 0 0 0 0) 4
+    -- a fence that no run reaches, in the last thread
+    ∷ case (header 2 3 2 ++ thread 0 ++ thread 2 ++ lineRecord 4 0 2 1 0 ++ lineRecord 11 0 0 0 0) 4
+    ∷ []
+
+abbrev counts : List Case → Bool
+counts [] = true
+counts (c ∷ cs) = eqb (locations (readProgram (c .bytes))) (c .gets) && counts cs
+
+pub every-location-counted : counts fenced ≡ true
+unfolding readProgram isRecord startsWith areInRange endsAfter readThreads readThread readLines readLine fieldsToLine check
+    andThen isOp opAt opTable sumOp isRegAndRest isTarget areOperands whenUsed zeroUnlessUsed usesTarget isOperand operand leavesRoom
+    fenceLocations anyIs isFence
+every-location-counted = refl

@@ -1,17 +1,19 @@
--- Each op of document 01's table computed once, with three values, at line 4 with registers 1, 2, 0, 0.
+-- Each op of document 01's table, and the fence, computed once, with three values and nine locations, the last of which is
+-- the fence's, at line 4 with registers 1, 2, 0, 0.
 use Prim.Native.Nat.{ℕ}
 use mathlib.Core.Path.{_≡_, refl}
 use mathlib.Core.List.{[], _∷_}
 use mathlib.Core.Option.{some}
-use Rattle.program.specs.Program.{constant, register, sum, equal, less, jump, write, read, fadd, wait, bcas, Line}
-use Rattle.program.specs.Thread.{ThreadState, operand, reads, writes, updates, NextLine, local, does}
+use Rattle.program.specs.Program.{Line, constant, register, fenceLocation}
+use Rattle.program.specs.Program.{sum, equal, less, jump, write, read, fadd, wait, bcas, fence}
+use Rattle.program.specs.Thread.{ThreadState, operand, reads, writes, updates, NextLine, local, access, does}
 use Rattle.program.proofs.NextLines.{effectAt}
 
 abbrev at : (line a b c d : ℕ) → ThreadState
 at line a b c d = record { line = line; registers = a ∷ b ∷ c ∷ d ∷ [] }
 
 abbrev here : Line → NextLine
-here l = does 3 l (at 4 1 2 0 0)
+here l = does 3 9 l (at 4 1 2 0 0)
 
 sums : here (sum 0 (register 0) (register 1)) ≡ local (at 5 0 2 0 0)
 unfolding does operand
@@ -57,3 +59,12 @@ stores = refl
 waits : effectAt (here (wait 7 (register 0))) 1 ≡ some (record { action = reads; after = at 5 1 2 0 0 })
 unfolding does operand effectAt
 waits = refl
+
+-- A fence writes what it finds, at the last location, and leaves the registers.
+fences : effectAt (here fence) 2 ≡ some (record { action = updates 2; after = at 5 1 2 0 0 })
+unfolding does effectAt
+fences = refl
+
+at-the-last : here fence ≡ access 8 (effectAt (here fence))
+unfolding does effectAt fenceLocation
+at-the-last = refl

@@ -1,6 +1,7 @@
 pub mod NextLines
 pub mod EachOp
 pub mod AllLaws
+pub mod Fences
 pub mod ValidLaws
 pub mod Bounds
 pub mod LargerLimits

@@ -6,11 +6,11 @@ use native.Mathlib.Omega.{arith}
 use lib.ListN.{length, getD, drop, length-drop}
 use lib.Seq.{drop-drop, drop-at, getD-drop}
 use Rattle.limits.specs.Limits.{minValues, maxValues}
-use Rattle.program.specs.Program.{Line, Program, linesOf}
+use Rattle.program.specs.Program.{Line, Program, linesOf, namedLocations}
 use Rattle.program.specs.Outcome.Outcome.{accepted}
 use Rattle.program.specs.Format.{sizePR, sizeTH, sizeIN, readLine, readProgram}
 use Rattle.program.specs.Spelling.{spellLine, spellLines, spellThread, spellThreads, spell}
-use Rattle.program.specs.Within.{LineWithin}
+use Rattle.program.specs.Within.{LineNamed}
 use Rattle.program.specs.Layout.{threadSize, startsFrom, startOf}
 use Rattle.program.proofs.AllLaws.{all-at}
 use Rattle.program.proofs.SpellingLength.{length-spellLine, length-spellThread}
@@ -70,7 +70,7 @@ threads-stand bytes at (lines ∷ threads) rest (suc t) e h =
 pub record LineStands (L K n : ℕ) (bytes : List ℕ) (at : ℕ) (line : Line) : Type 0 where
   pub whole : at + sizeIN ≤ length bytes
   pub spelled : drop at bytes ≡ spellLine line ++ drop (at + sizeIN) bytes
-  pub within : LineWithin L K n line
+  pub within : LineNamed L K n line
   pub read : readLine L K n (drop at bytes) ≡ accepted (line, drop (at + sizeIN) bytes)
   pub fields :
       FieldsRead
@@ -85,7 +85,7 @@ pub record LineStands (L K n : ℕ) (bytes : List ℕ) (at : ℕ) (line : Line) 
       line
 
 line-stands-at : (L K n : ℕ) → minValues ≤ K → K ≤ maxValues → (bytes : List ℕ) (at : ℕ) (line : Line) (rest : List ℕ)
-    → LineWithin L K n line → drop at bytes ≡ spellLine line ++ rest → LineStands L K n bytes at line
+    → LineNamed L K n line → drop at bytes ≡ spellLine line ++ rest → LineStands L K n bytes at line
 line-stands-at L K n some-values few-values bytes at line rest within e =
     let sized = length-spellLine line in
     let after = drop-past-front bytes (spellLine line) rest at sizeIN e sized in
@@ -114,7 +114,7 @@ thread-stands bytes p e t h =
 pub line-stands : (bytes : List ℕ) (p : Program) → readProgram bytes ≡ accepted p
     → (t i : ℕ) (d : Line) → t < length (p .threads) → i < length (linesOf p t)
     → LineStands
-    (p .locations)
+    (namedLocations p)
     (p .values)
     (length (linesOf p t))
     bytes

@@ -1,8 +1,9 @@
--- The numbers of refusals: 3 to 8 for a line or a thread, 1 to 9 for the whole input.
+-- The numbers of refusals: 3 to 8 for a line or a thread, 1 to 9 for the whole input, and 12 for each.
 use Prim.Native.Nat.{ℕ, zero, suc, _≤_}
 use mathlib.Core.Bool.{Bool, true, false}
 use mathlib.Core.List.{List}
-use mathlib.Core.Path.{_≡_, subst}
+use mathlib.Core.Logic.{_⊎_, inl, inr}
+use mathlib.Core.Path.{_≡_, refl, subst}
 use native.Mathlib.Omega.{arith}
 use lib.ListN.{getD, drop}
 use Rattle.program.specs.Outcome.{Outcome, check, andThen}
@@ -10,13 +11,17 @@ use Rattle.program.specs.Outcome.Outcome.{refused, accepted}
 use Rattle.program.specs.Format.{sizePR, sizeTH, fieldsToLine, readLine, readLines, readThread, readThreads}
 use Rattle.program.specs.Format.{endsAfter, readProgram}
 
--- If it is refused, then with a number from low to high.
+-- A number from low to high, or 12.
+abbrev pub From : (low high number : ℕ) → Type 0
+From low high number = ((low ≤ number) × (number ≤ high)) ⊎ (number ≡ 12)
+
+-- If it is refused, then with such a number.
 abbrev pub RefusedFrom : {A : Type 0} → (low high : ℕ) → Outcome A → Type 0
-RefusedFrom low high (refused number) = (low ≤ number) × (number ≤ high)
+RefusedFrom low high (refused number) = From low high number
 RefusedFrom low high (accepted a) = Unit {0}
 
 module _ {A : Type 0} (low high : ℕ) where
-  pub check-from : (number : ℕ) → (low ≤ number) × (number ≤ high) → (b : Bool) (rest : Outcome A)
+  pub check-from : (number : ℕ) → From low high number → (b : Bool) (rest : Outcome A)
       → RefusedFrom low high rest → RefusedFrom low high (check number b rest)
   unfolding check
   check-from number between true rest h = h
@@ -31,12 +36,13 @@ module _ {A : Type 0} (low high : ℕ) where
 pub line-refused-from : (L K n : ℕ) (bytes : List ℕ) → RefusedFrom 3 8 (readLine L K n bytes)
 unfolding readLine fieldsToLine
 line-refused-from L K n bytes =
-    check-from 3 8 _ (omega arith) _ _
+    check-from 3 8 _ (inl (omega arith)) _ _
     (andThen-from 3 8 _ _
-    (check-from 3 8 _ (omega arith) _ _
-    (check-from 3 8 _ (omega arith) _ _
-    (check-from 3 8 _ (omega arith) _ _
-    (check-from 3 8 _ (omega arith) _ _ tt))))
+    (check-from 3 8 _ (inl (omega arith)) _ _
+    (check-from 3 8 _ (inr refl) _ _
+    (check-from 3 8 _ (inl (omega arith)) _ _
+    (check-from 3 8 _ (inl (omega arith)) _ _
+    (check-from 3 8 _ (inl (omega arith)) _ _ tt)))))
     (λ line. tt))
 
 pub lines-refused-from : (L K n count : ℕ) (bytes : List ℕ) → RefusedFrom 3 8 (readLines L K n count bytes)
@@ -49,8 +55,8 @@ lines-refused-from L K n (suc count) bytes =
 pub thread-refused-from : (L K : ℕ) (bytes : List ℕ) → RefusedFrom 3 8 (readThread L K bytes)
 unfolding readThread
 thread-refused-from L K bytes =
-    check-from 3 8 _ (omega arith) _ _
-    (check-from 3 8 _ (omega arith) _ _ (lines-refused-from L K _ _ (drop sizeTH bytes)))
+    check-from 3 8 _ (inl (omega arith)) _ _
+    (check-from 3 8 _ (inl (omega arith)) _ _ (lines-refused-from L K _ _ (drop sizeTH bytes)))
 
 pub threads-refused-from : (L K count : ℕ) (bytes : List ℕ) → RefusedFrom 3 8 (readThreads L K count bytes)
 unfolding readThreads
@@ -60,7 +66,8 @@ threads-refused-from L K (suc count) bytes =
     (λ first. andThen-from 3 8 _ _ (threads-refused-from L K count (first .1)) (λ others. tt))
 
 wider : {A : Type 0} (o : Outcome A) → RefusedFrom 3 8 o → RefusedFrom 1 9 o
-wider (refused number) h = omega arith
+wider (refused number) (inl h) = inl (omega arith)
+wider (refused number) (inr h) = inr h
 wider (accepted a) h = tt
 
 pub program-refused-from : (bytes : List ℕ) → RefusedFrom 1 9 (readProgram bytes)
@@ -69,12 +76,13 @@ program-refused-from bytes =
     let L = getD bytes 3 0 in
     let K = getD bytes 4 0 in
     let T = getD bytes 2 0 in
-    check-from 1 9 _ (omega arith) _ _
-    (check-from 1 9 _ (omega arith) _ _
+    check-from 1 9 _ (inl (omega arith)) _ _
+    (check-from 1 9 _ (inl (omega arith)) _ _
     (andThen-from 1 9 _ _
     (wider (readThreads L K T (drop sizePR bytes)) (threads-refused-from L K T (drop sizePR bytes)))
-    (λ read. check-from 1 9 _ (omega arith) _ _ tt)))
+    (λ read. check-from 1 9 _ (inl (omega arith)) _ _ tt)))
 
--- An input that is refused is refused with a number from 1 to 9.
-pub refused-from-one-to-nine : (bytes : List ℕ) {k : ℕ} → readProgram bytes ≡ refused k → (1 ≤ k) × (k ≤ 9)
-refused-from-one-to-nine bytes e = subst (RefusedFrom 1 9) e (program-refused-from bytes)
+-- An input that is refused is refused with a number from 1 to 9, or with 12.
+pub refused-from-one-to-nine-or-twelve : (bytes : List ℕ) {k : ℕ} → readProgram bytes ≡ refused k
+    → ((1 ≤ k) × (k ≤ 9)) ⊎ (k ≡ 12)
+refused-from-one-to-nine-or-twelve bytes e = subst (RefusedFrom 1 9) e (program-refused-from bytes)

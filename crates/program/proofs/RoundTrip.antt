@@ -1,5 +1,5 @@
 -- The program bytes there and back.
-use Prim.Native.Nat.{ℕ}
+use Prim.Native.Nat.{ℕ, _+_, _≤_}
 use mathlib.Core.Bool.{true}
 use mathlib.Core.List.{List, [], _∷_, _++_, append-nil}
 use mathlib.Core.Path.{_≡_, refl, sym, ap, ap₂, subst, _∙_}
@@ -7,7 +7,7 @@ use native.Mathlib.Omega.{arith}
 use lib.ListN.{length, getD, drop}
 use borrow.Author.Tests.{eqb-true}
 use Rattle.lists.proofs.Places.{nothing-of-length-zero}
-use Rattle.program.specs.Program.{Line, Program}
+use Rattle.program.specs.Program.{Line, Program, fenceLocations, namedLocations}
 use Rattle.program.specs.Outcome.Outcome.{accepted}
 use Rattle.program.specs.Format.{markPR, sizePR, isRecord, endsAfter, readThreads, readProgram}
 use Rattle.program.specs.Spelling.{spellThreads, spell}
@@ -15,6 +15,7 @@ use Rattle.program.specs.Within.{Within}
 use Rattle.program.proofs.OutcomeLaws.{accepted-injective, check-passes, check-accepted}
 use Rattle.program.proofs.OutcomeLaws.{andThen-goes-on, andThen-accepted}
 use Rattle.program.proofs.RecordLaws.{record-found}
+use Rattle.program.proofs.Fences.{named-of-all, all-locations}
 use Rattle.program.proofs.HeaderLaws.{InRange, in-range, are-in-range, program-record-stands}
 use Rattle.program.proofs.AcceptedThreads.{ThreadsRead, threads-read}
 use Rattle.program.proofs.SpelledThreads.{read-threads}
@@ -24,7 +25,7 @@ pub read-spelling : (p : Program) → Within p → readProgram (spell p) ≡ acc
 unfolding readProgram spell endsAfter
 read-spelling p h =
     let T = length (p .threads) in
-    let L = p .locations in
+    let L = namedLocations p in
     let K = p .values in
     let bytes = spellThreads (p .threads) in
     let range : InRange T L K = record {
@@ -41,6 +42,8 @@ read-spelling p h =
     ∙ check-passes _ _ _ (are-in-range T L K range)
     ∙ andThen-goes-on _ _ (to-the-end ∙ threads)
     ∙ check-passes _ _ _ refl
+    ∙ ap (λ all. accepted (record { threads = p .threads; locations = all; values = p .values }))
+    (all-locations p (h .some-locations))
 
 -- Threads in range, up to the end of the input, are the spelling of a program within the limits.
 program-spelled : (bytes : List ℕ) {threads : List (List Line)} {rest : List ℕ}
@@ -48,23 +51,26 @@ program-spelled : (bytes : List ℕ) {threads : List (List Line)} {rest : List �
     → InRange (getD bytes 2 0) (getD bytes 3 0) (getD bytes 4 0)
     → ThreadsRead (getD bytes 3 0) (getD bytes 4 0) (getD bytes 2 0) (drop sizePR bytes) threads rest
     → length rest ≡ 0
-    → let p : Program = record { threads = threads; locations = getD bytes 3 0; values = getD bytes 4 0 } in
+    → let L = getD bytes 3 0 in
+    let p : Program = record { threads = threads; locations = L + fenceLocations threads; values = getD bytes 4 0 } in
     (bytes ≡ spell p) × Within p
 unfolding spell
 program-spelled bytes {threads} {rest} due range read ended =
-    let to-the-end = ap (λ l. spellThreads threads ++ l) (nothing-of-length-zero rest ended) ∙ append-nil (spellThreads threads) in (
+    let L = getD bytes 3 0 in
+    let K = getD bytes 4 0 in
+    let to-the-end = ap (λ l. spellThreads threads ++ l) (nothing-of-length-zero rest ended) ∙ append-nil (spellThreads threads) in
+    let named = named-of-all threads L K in (
       program-record-stands bytes due
-          ∙ ap₂ (λ count l. markPR ++ count ∷ getD bytes 3 0 ∷ getD bytes 4 0 ∷ l)
-          (sym (read .counted))
-          (read .spelled ∙ to-the-end),
+          ∙ ap₂ (λ count l. markPR ++ count ∷ L ∷ K ∷ l) (sym (read .counted)) (read .spelled ∙ to-the-end)
+          ∙ ap (λ l. markPR ++ length threads ∷ l ∷ K ∷ spellThreads threads) (sym named),
       record {
         some-threads = rw (read .counted) (range .some-threads);
         few-threads = rw (read .counted) (range .few-threads);
-        some-locations = range .some-locations;
-        few-locations = range .few-locations;
+        some-locations = rw named (range .some-locations);
+        few-locations = rw named (range .few-locations);
         some-values = range .some-values;
         few-values = range .few-values;
-        each = read .within;
+        each = rw named (read .within);
       },
     )
 
@@ -80,3 +86,11 @@ accepted-is-spelling bytes p e =
     let read = threads-read _ _ _ _ at-threads in
     subst (λ p. (bytes ≡ spell p) × Within p) (accepted-injective (nine .1))
     (program-spelled bytes (one .0) (in-range _ _ _ (two .0)) read (eqb-true (length (got .1)) 0 (nine .0)))
+
+-- The L that an accepted input holds is the number of its program's named locations.
+pub named-in-header : (bytes : List ℕ) (p : Program) → readProgram bytes ≡ accepted p
+    → (sizePR ≤ length bytes) × (getD bytes 3 0 ≡ namedLocations p)
+unfolding spell
+named-in-header bytes p e =
+    let spelled = accepted-is-spelling bytes p e .0 in
+    (omega (arith, ap length spelled), ap (λ l. getD l 3 0) spelled)

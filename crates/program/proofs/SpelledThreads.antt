@@ -10,7 +10,7 @@ use Rattle.program.specs.Program.{Line}
 use Rattle.program.specs.Outcome.Outcome.{accepted}
 use Rattle.program.specs.Format.{markTH, sizeTH, readLines, readThread, readThreads}
 use Rattle.program.specs.Spelling.{spellLine, spellLines, spellThread, spellThreads}
-use Rattle.program.specs.Within.{LineWithin, ThreadWithin, All}
+use Rattle.program.specs.Within.{LineNamed, ThreadWithin, All}
 use Rattle.program.specs.Within.All.{none, more}
 use Rattle.program.proofs.OutcomeLaws.{check-passes}
 use Rattle.program.proofs.PartsLaws.{more-read}
@@ -18,7 +18,7 @@ use Rattle.program.proofs.RecordLaws.{record-found}
 use Rattle.program.proofs.SpelledLine.{read-line}
 
 module _ (L K : ℕ) (some-values : minValues ≤ K) (few-values : K ≤ maxValues) where
-  pub read-lines : (n : ℕ) (lines : List Line) (rest : List ℕ) → All (LineWithin L K n) lines
+  pub read-lines : (n : ℕ) (lines : List Line) (rest : List ℕ) → All (LineNamed L K n) lines
       → readLines L K n (length lines) (spellLines lines ++ rest) ≡ accepted (lines, rest)
   unfolding readLines spellLines
   read-lines n [] rest none = refl

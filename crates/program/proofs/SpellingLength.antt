@@ -5,7 +5,7 @@ use mathlib.Core.Path.{_≡_, refl}
 use native.Mathlib.Omega.{arith}
 use lib.ListN.{length, length-append}
 use Rattle.program.specs.Program.{Line}
-use Rattle.program.specs.Program.Line.{sum, equal, less, jump, write, read, fadd, cas, wait, bcas}
+use Rattle.program.specs.Program.Line.{sum, equal, less, jump, write, read, fadd, cas, wait, bcas, fence}
 use Rattle.program.specs.Format.{sizeTH, sizeIN}
 use Rattle.program.specs.Spelling.{spellLine, spellLines, spellThread}
 
@@ -21,6 +21,7 @@ length-spellLine (fadd r x a) = refl
 length-spellLine (cas r x a b) = refl
 length-spellLine (wait x a) = refl
 length-spellLine (bcas x a b) = refl
+length-spellLine fence = refl
 
 pub length-spellLines : (lines : List Line) → length (spellLines lines) ≡ length lines * sizeIN
 unfolding spellLines

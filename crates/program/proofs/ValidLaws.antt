@@ -1,14 +1,17 @@
 -- A program within the limits is valid.
-use Prim.Native.Nat.{ℕ}
-use mathlib.Core.List.{List}
-use lib.ListN.{length}
-use Rattle.program.specs.Program.{Line, Program}
-use Rattle.program.specs.Within.{LineWithin, All, none, more, ThreadWithin, Within, Valid}
-
-each-line : {L K : ℕ} {threads : List (List Line)} → All (ThreadWithin L K) threads
-    → All (λ (lines : List Line). All (LineWithin L K (length lines)) lines) threads
-each-line none = none
-each-line (more h k) = more (h .each) (each-line k)
+use native.Mathlib.Omega.{arith}
+use Rattle.program.specs.Program.{Program}
+use Rattle.program.specs.Within.{Within, Valid}
+use Rattle.program.proofs.AllLaws.{all-with}
+use Rattle.program.proofs.Fences.{some-in-all}
+use Rattle.program.proofs.LargerLimits.{line-in-larger}
 
 pub within-valid : {p : Program} → Within p → Valid p
-within-valid w = record { some-values = w .some-values; each = each-line (w .each) }
+within-valid w =
+    record {
+      some-values = w .some-values;
+      each =
+          all-with
+          (λ lines h. all-with (line-in-larger (omega arith) (omega arith) (omega arith) (λ _. some-in-all w)) (h .each))
+          (w .each);
+    }

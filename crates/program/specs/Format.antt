@@ -1,17 +1,18 @@
--- The program bytes, as document 01 has them in its sections "Program bytes" and "Checks", with the locations of
--- document 02, Point 3: from a list of bytes to the number of the first failed check, 1 to 9, or the program. "All
--- fields are one byte, an unsigned number": a byte is a number here. A record is read with the bytes after it.
+-- The program bytes, as document 01 has them in its sections "Program bytes" and "Checks", with the locations and the fence
+-- of document 02, Points 3 and 5: from a list of bytes to the number of the first failed check, 1 to 9 or 12, or the
+-- program. "All fields are one byte, an unsigned number": a byte is a number here. A record is read with the bytes after
+-- it, and L is the number of the named locations.
 use Prim.Native.Nat.{ℕ, zero, suc, _+_, _-_}
 use mathlib.Core.Bool.{Bool, true, false, not, cond, _&&_, _||_}
 use mathlib.Core.List.{List, [], _∷_}
 use lib.ListN.{length, getD, drop}
 use lib.Dec.{leb, ltb, eqb}
 use Rattle.limits.specs.Limits.{maxThreads, maxLocations, minValues, maxValues, maxLines, registers}
-use Rattle.program.specs.Program.{Operand, Line, Program}
+use Rattle.program.specs.Program.{Operand, Line, Program, fenceLocations}
 use Rattle.program.specs.Program.Operand.{constant, register}
 use Rattle.program.specs.Outcome.{Outcome, check, andThen}
 use Rattle.program.specs.Outcome.Outcome.{refused, accepted}
-use Rattle.program.specs.Ops.{Target, Op, isOp, opAt}
+use Rattle.program.specs.Ops.{Target, Op, isOp, opAt, fenceOp}
 use Rattle.program.specs.Ops.Target.{noTarget, toLocation, toLine}
 
 -- "Each record starts with a two-byte mark in ASCII."
@@ -93,16 +94,21 @@ isTarget toLine L n target = leb target n
 unfoldable pub areOperands : Op → ℕ → ℕ → ℕ → Bool
 areOperands o K a b = whenUsed (o .a) (isOperand K a) && whenUsed (o .b) (isOperand K b)
 
--- Checks 5 to 8 of the fields of a line, in a thread of n lines, and the line.
+-- "12 when op 11 stands in a program whose L is 16": by check 2, where it is not below.
+unfoldable pub leavesRoom : (L op : ℕ) → Bool
+leavesRoom L op = whenUsed (eqb op fenceOp) (ltb L maxLocations)
+
+-- Checks 5 to 8 of the fields of a line, with 12 "asked directly after check 5", in a thread of n lines, and the line.
 unfoldable pub fieldsToLine : (L K n op reg target a b : ℕ) → Outcome Line
 fieldsToLine L K n op reg target a b =
     check 5 (isOp op)
+    (check 12 (leavesRoom L op)
     (check 6 (isRegAndRest (opAt op) reg target a b)
     (check 7 (isTarget (opAt op .target) L n target)
     (check 8 (areOperands (opAt op) K a b)
-    (accepted (opAt op .makes reg target (operand K a) (operand K b))))))
+    (accepted (opAt op .makes reg target (operand K a) (operand K b)))))))
 
--- "IN, op, reg, target, A, B: one line." Check 3, then checks 5 to 8, of the IN record that is due.
+-- "IN, op, reg, target, A, B: one line." Check 3, then those of the fields, of the IN record that is due.
 unfoldable pub readLine : (L K n : ℕ) → List ℕ → Outcome (Line × List ℕ)
 readLine L K n bytes =
     check 3 (isRecord markIN sizeIN bytes)
@@ -131,10 +137,11 @@ readThreads L K (suc count) bytes =
     andThen (readThread L K bytes)
     (λ first. andThen (readThreads L K count (first .1)) (λ others. accepted (first .0 ∷ others .0, others .1)))
 
--- "After the last record", check 9: "Does the input end?" Then the program.
+-- "After the last record", check 9: "Does the input end?" Then the program, whose locations count the fence's "when the
+-- program has an op 11".
 unfoldable pub endsAfter : (L K : ℕ) → List (List Line) × List ℕ → Outcome Program
 endsAfter L K read =
-    check 9 (eqb (length (read .1)) 0) (accepted (record { threads = read .0; locations = L; values = K }))
+    check 9 (eqb (length (read .1)) 0) (accepted (record { threads = read .0; locations = L + fenceLocations (read .0); values = K }))
 
 -- The whole input: "PR, T, L, K" "comes first", with checks 1 and 2, then the threads, then check 9.
 unfoldable pub readProgram : List ℕ → Outcome Program

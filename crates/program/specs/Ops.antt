@@ -1,11 +1,12 @@
--- The op table of document 01, section "Program bytes": for each op the line that it is and the fields that it uses.
+-- The op table of document 01, section "Program bytes", and op 11 of document 02, Point 5: for each op the line that it is
+-- and the fields that it uses.
 use Prim.Native.Nat.{ℕ, _-_}
 use mathlib.Core.Bool.{Bool, true, false, _&&_}
 use mathlib.Core.List.{List, [], _∷_}
 use lib.ListN.{length, getD}
 use lib.Dec.{leb}
 use Rattle.program.specs.Program.{Operand, Line}
-use Rattle.program.specs.Program.Line.{sum, equal, less, jump, write, read, fadd, cas, wait, bcas}
+use Rattle.program.specs.Program.Line.{sum, equal, less, jump, write, read, fadd, cas, wait, bcas, fence}
 
 -- "A target is a location 0 to L−1, or for op 4 a line 0 to n."
 pub data Target : Type 0 where
@@ -27,7 +28,7 @@ row reg target a b makes = record { reg = reg; target = target; a = a; b = b; ma
 unfoldable pub sumOp : Op
 sumOp = row true noTarget true true (λ r x a b. sum r a b)
 
--- The rows of ops 1 to 10: reg, target, A, B used, and the line.
+-- The rows of ops 1 to 11: reg, target, A, B used, and the line.
 unfoldable pub opTable : List Op
 opTable =
     sumOp
@@ -40,12 +41,17 @@ opTable =
     ∷ row true toLocation true true (λ r x a b. cas r x a b)
     ∷ row false toLocation true false (λ r x a b. wait x a)
     ∷ row false toLocation true true (λ r x a b. bcas x a b)
+    ∷ row false noTarget false false (λ r x a b. fence)
     ∷ []
 
--- Check 5: "Is op 1 to 10?"
+-- Check 5 "accepts 1 to 11".
 unfoldable pub isOp : ℕ → Bool
 isOp op = leb 1 op && leb op (length opTable)
 
 -- The row of an op of the table.
 unfoldable pub opAt : ℕ → Op
 opAt op = getD opTable (op - 1) sumOp
+
+-- "Op 11 uses no field": the fence.
+abbrev pub fenceOp : ℕ
+fenceOp = 11

@@ -2,9 +2,10 @@
 use Prim.Native.Nat.{ℕ, _+_}
 use mathlib.Core.List.{List, [], _∷_, _++_}
 use lib.ListN.{length}
-use Rattle.program.specs.Program.{Operand, Line, Program}
+use Rattle.program.specs.Program.{Operand, Line, Program, namedLocations}
 use Rattle.program.specs.Program.Operand.{constant, register}
-use Rattle.program.specs.Program.Line.{sum, equal, less, jump, write, read, fadd, cas, wait, bcas}
+use Rattle.program.specs.Program.Line.{sum, equal, less, jump, write, read, fadd, cas, wait, bcas, fence}
+use Rattle.program.specs.Ops.{fenceOp}
 use Rattle.program.specs.Format.{markPR, markTH, markIN, firstRegister}
 
 -- The byte of an operand.
@@ -28,6 +29,7 @@ spellLine (fadd r x a) = lineRecord 7 r x (operandByte a) 0
 spellLine (cas r x a b) = lineRecord 8 r x (operandByte a) (operandByte b)
 spellLine (wait x a) = lineRecord 9 0 x (operandByte a) 0
 spellLine (bcas x a b) = lineRecord 10 0 x (operandByte a) (operandByte b)
+spellLine fence = lineRecord fenceOp 0 0 0 0
 
 -- Lines one after the other.
 unfoldable pub spellLines : List Line → List ℕ
@@ -43,6 +45,6 @@ unfoldable pub spellThreads : List (List Line) → List ℕ
 spellThreads [] = []
 spellThreads (lines ∷ threads) = spellThread lines ++ spellThreads threads
 
--- The spelling of a program.
+-- The spelling of a program: its L is the number of the named locations.
 unfoldable pub spell : Program → List ℕ
-spell p = markPR ++ length (p .threads) ∷ p .locations ∷ p .values ∷ spellThreads (p .threads)
+spell p = markPR ++ length (p .threads) ∷ namedLocations p ∷ p .values ∷ spellThreads (p .threads)

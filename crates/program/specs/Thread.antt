@@ -1,4 +1,5 @@
--- Thread states and what a thread's next line does: document 01, sections "Program bytes" and "Graphs".
+-- Thread states and what a thread's next line does: document 01, sections "Program bytes" and "Graphs", and document 02,
+-- Point 5.
 use Prim.Native.Nat.{ℕ, suc, _+_, _%_}
 use mathlib.Core.Bool.{Bool, true, false, cond}
 use mathlib.Core.List.{List}
@@ -6,8 +7,8 @@ use mathlib.Core.Option.{Option, none, some}
 use lib.Dec.{eqb, ltb}
 use lib.ListN.{getD, getElem?, set, replicate}
 use Rattle.limits.specs.Limits.{registers as registerCount}
-use Rattle.program.specs.Program.{Operand, constant, register, Line, Program, linesOf}
-use Rattle.program.specs.Program.{sum, equal, less, jump, write, read, fadd, cas, wait, bcas}
+use Rattle.program.specs.Program.{Operand, constant, register, Line, Program, linesOf, fenceLocation}
+use Rattle.program.specs.Program.{sum, equal, less, jump, write, read, fadd, cas, wait, bcas, fence}
 use Rattle.program.specs.declared.Kind.{Kind}
 use Rattle.program.specs.declared.Kind.the-variants.{Read, Write, Update}
 
@@ -70,38 +71,42 @@ pub data NextLine : Type 0 where
   -- where the line has no step with such a w.
   access : (location : ℕ) (effect : ℕ → Option Effect) → NextLine
 
--- The line of each op, in a program with K values. "Operands are evaluated before reg changes."
-unfoldable pub does : ℕ → Line → ThreadState → NextLine
+-- The line of each op, in a program with K values and L locations, the fence's among them. "Operands are evaluated before
+-- reg changes."
+unfoldable pub does : (K L : ℕ) → Line → ThreadState → NextLine
 -- "reg := A + B modulo K"
-does K (sum r a b) s = local (load s r ((operand s a + operand s b) % K))
+does K L (sum r a b) s = local (load s r ((operand s a + operand s b) % K))
 -- "1 if A = B else 0"
-does K (equal r a b) s = local (load s r (cond (eqb (operand s a) (operand s b)) 1 0))
+does K L (equal r a b) s = local (load s r (cond (eqb (operand s a) (operand s b)) 1 0))
 -- "1 if A < B else 0"
-does K (less r a b) s = local (load s r (cond (ltb (operand s a) (operand s b)) 1 0))
+does K L (less r a b) s = local (load s r (cond (ltb (operand s a) (operand s b)) 1 0))
 -- "op 4 with A not 0 goes to its target, and every other of them goes on to the next line"
-does K (jump target a) s = local (cond (eqb (operand s a) 0) (onward s) (goto s target))
+does K L (jump target a) s = local (cond (eqb (operand s a) 0) (onward s) (goto s target))
 -- "write A"
-does K (write x a) s = access x (λ u. some (record { action = writes (operand s a); after = onward s }))
+does K L (write x a) s = access x (λ u. some (record { action = writes (operand s a); after = onward s }))
 -- "read into reg"; "reg, where the line uses it, takes the value that w wrote"
-does K (read r x) s = access x (λ u. some (record { action = reads; after = load s r u }))
+does K L (read r x) s = access x (λ u. some (record { action = reads; after = load s r u }))
 -- "FADD: add A modulo K, reg := old value"
-does K (fadd r x a) s = access x (λ u. some (record { action = updates ((u + operand s a) % K); after = load s r u }))
+does K L (fadd r x a) s = access x (λ u. some (record { action = updates ((u + operand s a) % K); after = load s r u }))
 -- "CAS from A to B, reg := value found"; "A failed CAS is a plain read."
-does K (cas r x a b) s =
+does K L (cas r x a b) s =
     access x
     (λ u. some (record { action = cond (eqb u (operand s a)) (updates (operand s b)) reads; after = load s r u }))
 -- "wait until the value is A"; "Ops 9 and 10 have a step only with a w of value A."
-does K (wait x a) s =
+does K L (wait x a) s =
     access x (λ u. cond (eqb u (operand s a)) (some (record { action = reads; after = onward s })) none)
 -- "blocking CAS from A to B"
-does K (bcas x a b) s =
+does K L (bcas x a b) s =
     access x (λ u. cond (eqb u (operand s a)) (some (record { action = updates (operand s b); after = onward s })) none)
+-- "Op 11 .. changes no register. It is FADD of 0 on a location of its own"
+does K L fence s =
+    access (fenceLocation L) (λ u. some (record { action = updates ((u + 0) % K); after = onward s }))
 
 -- What the line does, if there is one.
-unfoldable pub doesAt : ℕ → Option Line → ThreadState → NextLine
-doesAt K none s = ended
-doesAt K (some l) s = does K l s
+unfoldable pub doesAt : (K L : ℕ) → Option Line → ThreadState → NextLine
+doesAt K L none s = ended
+doesAt K L (some l) s = does K L l s
 
 -- "A step is one thread's next line, so a thread at its line n has none."
 unfoldable pub nextLine : Program → ℕ → ThreadState → NextLine
-nextLine p t s = doesAt (p .values) (getElem? (linesOf p t) (s .line)) s
+nextLine p t s = doesAt (p .values) (p .locations) (getElem? (linesOf p t) (s .line)) s

@@ -5,11 +5,14 @@ ghost use Prim.Native.Nat.{_+_, _≤_};
 ghost use lib.ListN.{length, drop};
 ghost use Rattle.program.specs.Ops.{isOp, opAt};
 ghost use Rattle.program.specs.Format.{startsWith, isRecord, isOperand, whenUsed, zeroUnlessUsed};
-ghost use Rattle.program.specs.Format.{usesTarget, isTarget, isRegAndRest, areOperands};
+ghost use Rattle.program.specs.Format.{usesTarget, isTarget, isRegAndRest, areOperands, leavesRoom};
 ghost use Rattle.records.specs.Fields.{fieldsOf, makeRow, rowOf, targetMeans};
 
 // The byte that stands for register 0 as an operand.
 pub const FIRST_REGISTER: usize = 128;
+
+// The op of a fence.
+pub const FENCE: u8 = 11;
 
 // The fields of a line's record, as they stand in the bytes.
 pub struct Fields {
@@ -76,7 +79,7 @@ pub fn is_op(op: u8) -> bool
     if op < 1 {
         return false;
     }
-    op <= 10
+    op <= 11
 }
 
 fn uses(reg: bool, target: Target, a: bool, b: bool) -> Row
@@ -99,6 +102,7 @@ pub fn row_of(op: u8) -> Row
         8 => uses(true, Target::ToLocation, true, true),
         9 => uses(false, Target::ToLocation, true, false),
         10 => uses(false, Target::ToLocation, true, true),
+        11 => uses(false, Target::NoTarget, false, false),
         _ => uses(true, Target::NoTarget, true, true),
     }
 }
@@ -123,6 +127,13 @@ fn uses_target(target: Target) -> bool
         Target::ToLocation => true,
         Target::ToLine => true,
     }
+}
+
+// Check 12, among l locations: a fence wants one more.
+pub fn leaves_room(l: u8, op: u8) -> bool
+    ensures { λ r. ⌜ r ≡ leavesRoom l op ⌝ }
+{
+    when_used(op == FENCE, (l as usize) < limits::LOCATIONS)
 }
 
 // Check 6, of the fields of a line and its op's row.

@@ -7,6 +7,7 @@ use native.Mathlib.Omega.{arith}
 use lib.Dec.{eqb}
 use lib.ListN.{getElem?}
 use Rattle.program.specs.Program.{Program, Line, linesOf, sum, equal, less, jump, write, read, fadd, cas, wait, bcas}
+use Rattle.program.specs.Program.{fence}
 use Rattle.program.specs.Thread.{ThreadState, reads, writes, updates, Effect, local, access, onward, load, operand}
 use Rattle.program.specs.Thread.{does, doesAt, nextLine, Action}
 
@@ -31,27 +32,28 @@ not-update : {q : ThreadState} {e : Effect} {v w : ℕ} → some (record { actio
 not-update {v = v} {w = w} h k =
     let r : updates w ≡ writes v = its-action h ∙ k in let z : _≡_ {A = ℕ} 0 1 = cc in omega arith
 
-line-ignores : (K : ℕ) (l : Line) (s : ThreadState) {x : ℕ} (f : ℕ → Option Effect) (u u′ : ℕ) {e : Effect} {v : ℕ}
-    → does K l s ≡ access x f → f u ≡ some e → e .action ≡ writes v → f u′ ≡ some e
+line-ignores : (K L : ℕ) (l : Line) (s : ThreadState) {x : ℕ} (f : ℕ → Option Effect) (u u′ : ℕ) {e : Effect} {v : ℕ}
+    → does K L l s ≡ access x f → f u ≡ some e → e .action ≡ writes v → f u′ ≡ some e
 unfolding does
-line-ignores K (sum r a b) s f u u′ q h k = absurd (no-access q)
-line-ignores K (equal r a b) s f u u′ q h k = absurd (no-access q)
-line-ignores K (less r a b) s f u u′ q h k = absurd (no-access q)
-line-ignores K (jump t a) s f u u′ q h k = absurd (no-access q)
-line-ignores K (write x a) s f u u′ q h k = sym (same-effects q u′) ∙ same-effects q u ∙ h
-line-ignores K (read r x) s f u u′ q h k = absurd (not-read (same-effects q u ∙ h) k)
-line-ignores K (fadd r x a) s f u u′ q h k = absurd (not-update (same-effects q u ∙ h) k)
-line-ignores K (cas r x a b) s f u u′ {e} {v} q h k = absurd (go (eqb u (operand s a)) (same-effects q u ∙ h))
+line-ignores K L (sum r a b) s f u u′ q h k = absurd (no-access q)
+line-ignores K L (equal r a b) s f u u′ q h k = absurd (no-access q)
+line-ignores K L (less r a b) s f u u′ q h k = absurd (no-access q)
+line-ignores K L (jump t a) s f u u′ q h k = absurd (no-access q)
+line-ignores K L (write x a) s f u u′ q h k = sym (same-effects q u′) ∙ same-effects q u ∙ h
+line-ignores K L (read r x) s f u u′ q h k = absurd (not-read (same-effects q u ∙ h) k)
+line-ignores K L (fadd r x a) s f u u′ q h k = absurd (not-update (same-effects q u ∙ h) k)
+line-ignores K L fence s f u u′ q h k = absurd (not-update (same-effects q u ∙ h) k)
+line-ignores K L (cas r x a b) s f u u′ {e} {v} q h k = absurd (go (eqb u (operand s a)) (same-effects q u ∙ h))
   where
     go : (c : Bool) → some (record { action = cond c (updates (operand s b)) reads; after = load s r u }) ≡ some e → ⊥
     go true z = not-update z k
     go false z = not-read z k
-line-ignores K (wait x a) s f u u′ {e} {v} q h k = absurd (go (eqb u (operand s a)) (same-effects q u ∙ h))
+line-ignores K L (wait x a) s f u u′ {e} {v} q h k = absurd (go (eqb u (operand s a)) (same-effects q u ∙ h))
   where
     go : (c : Bool) → cond c (some (record { action = reads; after = onward s })) none ≡ some e → ⊥
     go true z = not-read z k
     go false z = let y : _≡_ {A = ℕ} 0 1 = cc in omega arith
-line-ignores K (bcas x a b) s f u u′ {e} {v} q h k = absurd (go (eqb u (operand s a)) (same-effects q u ∙ h))
+line-ignores K L (bcas x a b) s f u u′ {e} {v} q h k = absurd (go (eqb u (operand s a)) (same-effects q u ∙ h))
   where
     go : (c : Bool) → cond c (some (record { action = updates (operand s b); after = onward s })) none ≡ some e → ⊥
     go true z = not-update z k
@@ -63,6 +65,7 @@ pub plain-write-ignores : (p : Program) (t : ℕ) (s : ThreadState) {x : ℕ} (f
 unfolding nextLine doesAt
 plain-write-ignores p t s {x} f u u′ {e} {v} = go (getElem? (linesOf p t) (s .line))
   where
-    go : (o : Option Line) → doesAt (p .values) o s ≡ access x f → f u ≡ some e → e .action ≡ writes v → f u′ ≡ some e
+    go : (o : Option Line) → doesAt (p .values) (p .locations) o s ≡ access x f → f u ≡ some e → e .action ≡ writes v
+        → f u′ ≡ some e
     go none q h k = absurd (let z : _≡_ {A = ℕ} 0 1 = cc in omega arith)
-    go (some l) q h k = line-ignores (p .values) l s f u u′ q h k
+    go (some l) q h k = line-ignores (p .values) (p .locations) l s f u u′ q h k

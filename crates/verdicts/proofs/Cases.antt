@@ -1,11 +1,11 @@
--- What the verdict on MP, SB, 2+2W and the barrier says about all runs. Their answers, with counts and lent lengths, are
+-- What the verdict on MP, SB, 2+2W, the barrier and SB with fences says about all runs. Their answers, with counts and lent lengths, are
 -- in the table of specs/Table.antt.
 use Prim.Native.Nat.{ℕ}
 use native.Mathlib.Omega.{arith}
 use mathlib.Core.Path.{_≡_, refl, ap, subst, _∙_}
 use mathlib.Core.Option.{Option, none, some}
 use mathlib.Core.List.{List, [], _∷_}
-use Rattle.program.specs.Program.{constant, Line, write, read, wait, Program}
+use Rattle.program.specs.Program.{constant, Line, write, read, wait, fence, Program, isFence, anyIs, fenceLocations, namedLocations}
 use Rattle.program.specs.declared.Kind.the-variants.{Read, Write}
 use Rattle.program.specs.Outcome.{accepted}
 use Rattle.program.specs.Within.{Valid}
@@ -35,6 +35,15 @@ two K one other = record { threads = one ∷ other ∷ []; locations = 2; values
 abbrev sb : Program
 sb = two 2 (write 0 (constant 1) ∷ read 0 1 ∷ []) (write 1 (constant 1) ∷ read 0 0 ∷ [])
 
+-- SB with a fence between the two lines of each thread: the fence's location is the third.
+abbrev sbFenced : Program
+sbFenced =
+    record {
+      threads = (write 0 (constant 1) ∷ fence ∷ read 0 1 ∷ []) ∷ (write 1 (constant 1) ∷ fence ∷ read 0 0 ∷ []) ∷ [];
+      locations = 3;
+      values = 2;
+    }
+
 abbrev mp : Program
 mp = two 2 (write 0 (constant 1) ∷ write 1 (constant 1) ∷ []) (read 0 1 ∷ read 1 0 ∷ [])
 
@@ -48,7 +57,7 @@ barrier = two 2 (write 0 (constant 1) ∷ wait 1 (constant 1) ∷ []) (write 1 (
 
 -- Reads a spelling back, by computing.
 reads-back : Program → Program → Type 0
-unfolding spell spellThreads spellThread spellLines spellLine operandByte readOn
+unfolding spell namedLocations fenceLocations anyIs isFence spellThreads spellThread spellLines spellLine operandByte readOn
 reads-back p q = readOn (spell p) ≡ accepted q
 
 valid-mp : Valid mp
@@ -63,12 +72,19 @@ valid-two-writes = spelled-valid twoWrites (unfold reads-back in refl)
 valid-barrier : Valid barrier
 valid-barrier = spelled-valid barrier (unfold reads-back in refl)
 
--- MP and the barrier are robust.
+valid-sb-fenced : Valid sbFenced
+valid-sb-fenced = spelled-valid sbFenced (unfold reads-back in refl)
+
+-- MP, the barrier and SB with fences are robust.
 pub mp-robust : Robust mp
 mp-robust = closed-is-robust valid-mp 13 (outcome-by-search valid-mp 13 (unfold searchedOn in refl))
 
 pub barrier-robust : Robust barrier
 barrier-robust = closed-is-robust valid-barrier 7 (outcome-by-search valid-barrier 7 (unfold searchedOn in refl))
+
+pub sb-fenced-robust : Robust sbFenced
+sb-fenced-robust =
+    closed-is-robust valid-sb-fenced 26 (outcome-by-search valid-sb-fenced 26 (unfold searchedOn in refl))
 
 -- The schedule and the ending of what was found.
 unfoldable foundBy : Outcome (Entry Situation) Ending → Option (List ℕ × Ending)

@@ -1,5 +1,5 @@
 -- Document 01, section "Cases, marked * where proved", with the traces, the wanted length and the place size of document
--- 02, Points 1, 2 and 3: the starred cases as entries of one table.
+-- 02, Points 1, 2 and 3: the starred cases as entries of one table, and with them programs with fences, Point 5.
 use Prim.Native.Nat.{ℕ, _-_}
 use mathlib.Core.Path.{_≡_}
 use mathlib.Core.List.{List, [], _∷_, _++_}
@@ -39,7 +39,7 @@ thread n = 84 ∷ 72 ∷ n ∷ []
 abbrev line : (op reg target a b : ℕ) → List ℕ
 line op reg target a b = 73 ∷ 78 ∷ op ∷ reg ∷ target ∷ a ∷ b ∷ []
 
--- Ops 4, 5, 6 and 9.
+-- Ops 4, 5, 6, 9 and 11.
 abbrev jump : (target a : ℕ) → List ℕ
 jump target a = line 4 0 target a 0
 
@@ -51,6 +51,9 @@ read reg location = line 6 reg location 0 0
 
 abbrev wait : (location a : ℕ) → List ℕ
 wait location a = line 9 0 location a 0
+
+abbrev fence : List ℕ
+fence = line 11 0 0 0 0
 
 -- "Locations x = 0, y = 1"
 abbrev x : ℕ
@@ -69,12 +72,26 @@ R = 1
 abbrev W : ℕ
 W = 2
 
+abbrev M : ℕ
+M = 3
+
 -- "SB: x := 1; read y ‖ y := 1; read x; K = 2."
 abbrev sb : List ℕ
 sb = header 2 2 2 ++ thread 2 ++ write x 1 ++ read 0 y ++ thread 2 ++ write y 1 ++ read 0 x
 
 abbrev sbSteps : List ℕ
 sbSteps = step 1 W x 1 ++ step 1 R y 0 ++ step 2 W y 1
+
+-- SB with a fence between the two lines of thread 1, and of each thread.
+abbrev sbFencedOnce : List ℕ
+sbFencedOnce = header 2 2 2 ++ thread 3 ++ write x 1 ++ fence ++ read 0 y ++ thread 2 ++ write y 1 ++ read 0 x
+
+abbrev sbFenced : List ℕ
+sbFenced = header 2 2 2 ++ thread 3 ++ write x 1 ++ fence ++ read 0 y ++ thread 3 ++ write y 1 ++ fence ++ read 0 x
+
+-- "a location of its own, numbered after the L named ones": location 2, where a fence writes 0.
+abbrev sbFencedOnceSteps : List ℕ
+sbFencedOnceSteps = step 1 W x 1 ++ step 1 M 2 0 ++ step 1 R y 0 ++ step 2 W y 1
 
 -- "MP: x := 1; y := 1 ‖ read y; read x (two registers)."
 abbrev mp : List ℕ
@@ -112,6 +129,14 @@ lentTwelve = lentEleven ++ 7 ∷ []
 -- Fourteen bytes of trace are lent where a case does not say how many: two more than for the steps that are found.
 abbrev lent : List ℕ
 lent = lentTwelve ++ 6 ∷ 5 ∷ []
+
+-- As many as four steps need.
+abbrev lentSixteen : List ℕ
+lentSixteen = lent ++ 4 ∷ 3 ∷ []
+
+-- One thread of one fence, among L locations.
+abbrev fenceAmong : (L : ℕ) → List ℕ
+fenceAmong L = header 1 L 2 ++ thread 1 ++ fence
 
 -- A case in which the trace stays.
 abbrev staying : (bytes : List ℕ) (tableLength : ℕ) (trace : List ℕ) → Report → Case
@@ -152,4 +177,13 @@ cases =
     -- "op 4 to line n: accepted; to n + 1: 7."
     ∷ staying (jumping 1) 455 lent (Robust 2)
     ∷ staying (jumping 2) 455 lent (Refused 7)
+    -- A fence's location is "counted in the place size when the program has an op 11": 98 bytes for T = L = 2 and a fence,
+    -- 50 for T = L = 1 and a fence. SB with fences is robust; with one in thread 1 only it is not.
+    ∷ staying sbFenced 2548 lent (Robust 26)
+    ∷ staying sbFenced 2547 lent (Full 25)
+    ∷ getting sbFencedOnce 1078 lentSixteen (notRobust 11 4 2 Read x 0) sbFencedOnceSteps
+    ∷ staying (fenceAmong 1) 100 lent (Robust 2)
+    ∷ staying (fenceAmong 1) 99 lent (Full 1)
+    -- "12 when op 11 stands in a program whose L is 16"
+    ∷ staying (fenceAmong 16) 455 lent (Refused 12)
     ∷ []

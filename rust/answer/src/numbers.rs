@@ -31,7 +31,7 @@ impl Report {
             },
             [FU, TABLE_FULL, count, 0, 0, 0, 0, 0] => Report::Full { count: size(count) },
             [REFUSED, TRACE_SHORT, 0, wanted, 0, 0, 0, 0] => Report::Short { wanted: size(wanted) },
-            [REFUSED, number @ 1..=9, 0, 0, 0, 0, 0, 0] => Report::Refused { number: number as u8 },
+            [REFUSED, number, 0, 0, 0, 0, 0, 0] => Report::refused(u8::try_from(number).ok()?)?,
             _ => return None,
         })
     }
@@ -67,7 +67,9 @@ mod tests {
             ([0, 0, 5, 0, 0, 0, 0, 0], Report::Robust { count: 5 }),
             ([2, 11, 0, 0, 0, 0, 0, 0], Report::Full { count: 0 }),
             ([3, 10, 0, 8, 0, 0, 0, 0], Report::Short { wanted: 8 }),
+            ([3, 1, 0, 0, 0, 0, 0, 0], Report::Refused { number: 1 }),
             ([3, 9, 0, 0, 0, 0, 0, 0], Report::Refused { number: 9 }),
+            ([3, 12, 0, 0, 0, 0, 0, 0], Report::Refused { number: 12 }),
         ]
     }
 
@@ -96,7 +98,11 @@ mod tests {
             [2, 10, 5, 0, 0, 0, 0, 0],
             [3, 0, 0, 0, 0, 0, 0, 0],
             [3, 10, 7, 3, 0, 0, 0, 0],
+            [3, 11, 0, 0, 0, 0, 0, 0],
             [3, 11, 5, 0, 0, 0, 0, 0],
+            [3, 12, 1, 0, 0, 0, 0, 0],
+            [3, 13, 0, 0, 0, 0, 0, 0],
+            [3, 256 + 12, 0, 0, 0, 0, 0, 0],
             [4, 0, 0, 0, 0, 0, 0, 0],
         ];
         for numbers in none {

@@ -25,7 +25,7 @@ fn report_of(line: &str) -> Option<Report> {
     let report = match words[..] {
         ["RB", count] => Report::Robust { count: count.parse().ok()? },
         ["FU", count] => Report::Full { count: count.parse().ok()? },
-        ["NO", number] => Report::Refused { number: number.parse().ok().filter(|it| (1..=9).contains(it))? },
+        ["NO", number] => Report::refused(number.parse().ok()?)?,
         ["NR", count, steps, thread, kind, location, value] => Report::NotRobust {
             count: count.parse().ok()?,
             steps: steps.parse().ok()?,
@@ -76,7 +76,9 @@ mod tests {
         assert_eq!(report_in(SB), Some((report, steps)));
         assert_eq!(report_in("RB 13\n"), Some((Report::Robust { count: 13 }, vec![])));
         assert_eq!(report_in("FU 0\n"), Some((Report::Full { count: 0 }, vec![])));
-        assert_eq!(report_in("NO 9\n"), Some((Report::Refused { number: 9 }, vec![])));
+        for number in [1, 9, 12] {
+            assert_eq!(report_in(&format!("NO {number}\n")), Some((Report::Refused { number }, vec![])));
+        }
     }
 
     #[test]
@@ -102,6 +104,10 @@ mod tests {
             "OK 7\n",
             "NO 0\n",
             "NO 10\n",
+            "NO 11\n",
+            "NO 13\n",
+            "NO 012\n",
+            "NO 268\n",
             "NR 7 0 2 L 0 0\n",
             "NR 7 0 2 R 0 256\n",
             "NR 7 1 2 R 0 0\nST 1 X 0 0\n",

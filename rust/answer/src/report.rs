@@ -27,7 +27,7 @@ pub enum Report {
         thread: usize,
         /// What kind of access it is.
         kind: Kind,
-        /// The location of the access.
+        /// The location of the access: a named one, never that of the fences.
         location: usize,
         /// The smallest value of an older write that it may read, or may come directly after.
         value: u8,
@@ -47,7 +47,15 @@ pub enum Report {
     },
     /// The bytes are no program. All that was lent is unchanged.
     Refused {
-        /// The first check that failed, 1 to 9, as docs/FORMAT.md at the root of the repository lists them.
+        /// The first check that failed, 1 to 9 or 12, as docs/FORMAT.md at the root of the repository lists them.
         number: u8,
     },
+}
+
+impl Report {
+    /// The refusal by a check of the reader; nothing for a number that none of them has. 10 and 11 are asked after the
+    /// search.
+    pub(crate) fn refused(number: u8) -> Option<Report> {
+        matches!(number, 1..=9 | 12).then_some(Report::Refused { number })
+    }
 }

@@ -16,7 +16,7 @@ pub struct Step {
 pub struct Access {
     /// Its kind.
     pub kind: Kind,
-    /// Its location, from 0.
+    /// Its location, from 0; for a fence the one after the named ones.
     pub location: u8,
     /// The value that it reads, of a read; else the value that it writes.
     pub value: u8,

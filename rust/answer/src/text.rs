@@ -60,6 +60,7 @@ mod tests {
             (Report::Full { count: 0 }, "FU 0"),
             (Report::Short { wanted: 12 }, "NO 10"),
             (Report::Refused { number: 9 }, "NO 9"),
+            (Report::Refused { number: 12 }, "NO 12"),
         ] {
             assert_eq!(report.to_string(), line);
         }

@@ -5,6 +5,8 @@ mod locks;
 mod messages;
 mod sizes;
 
+use program::read;
+
 pub use sizes::ALL;
 
 /// Programs of one kind. They have the same threads and locations, so that their places have the same size.
@@ -29,6 +31,12 @@ impl Family {
     /// The text of the program of a size.
     pub fn text(&self, size: &Size) -> String {
         (self.text)(size.rounds)
+    }
+
+    /// Whether its programs have fences. What is measured of those that have none is compared with what was measured
+    /// when no program had any.
+    pub fn has_fences(&self) -> bool {
+        self.sizes.first().is_some_and(|size| read(&self.program(size)).is_ok_and(|it| it.has_fence()))
     }
 
     /// The bytes of the program of a size.

@@ -3,8 +3,7 @@
 use std::time::{Duration, Instant};
 
 use answer::{EightNumbers, Report};
-use program::limits::LOCATIONS;
-use program::{encode, place_size, read, Program};
+use program::{encode, read, Program};
 
 use crate::checkers::Checker;
 use crate::families::{Family, Size};
@@ -30,7 +29,7 @@ impl Lent {
     }
 
     fn of(program: Program, situations: usize) -> Lent {
-        let place = place_size(program.threads.len(), program.locations.into());
+        let place = program.place_size();
         let (bytes, table) = (encode(&program), vec![0; place * situations]);
         Lent { program, bytes, situations, place, table, trace: vec![0; TRACE] }
     }
@@ -38,7 +37,7 @@ impl Lent {
     /// The program at the last of as many locations as there may be, with the longest places of so many threads. It gets
     /// as many of them, though it may have more situations then.
     pub fn at_last_locations(&self) -> Lent {
-        let all = *LOCATIONS.end();
+        let all = self.program.most_locations();
         let moved = self.program.clone().moved(all, |location| all - 1 - location);
         Lent::of(moved, self.situations)
     }

@@ -19,7 +19,7 @@ impl Successors {
         let mut counted = Successors::default();
         turns(program, table, |turn| {
             counted.all += 1;
-            counted.made += usize::from(!is_skipped(&turn));
+            counted.made += usize::from(!is_skipped(program, &turn));
         });
         counted
     }
@@ -27,13 +27,13 @@ impl Successors {
 
 /// Whether the proved checker skips the step: a later thread led here, by a line that is independent of this one. So
 /// the two lead to the same situation in the other order too, in which the search has been there before.
-pub fn is_skipped(turn: &Turn) -> bool {
-    turn.last.is_some_and(|(thread, line)| thread > turn.thread && are_independent(line, turn.line))
+pub fn is_skipped(program: &Program, turn: &Turn) -> bool {
+    turn.last.is_some_and(|(thread, line)| thread > turn.thread && are_independent(program, line, turn.line))
 }
 
-/// Whether two lines access no location in common.
-fn are_independent(one: Line, other: Line) -> bool {
-    match (one.location(), other.location()) {
+/// Whether two lines access no location in common. Two fences do: their own.
+fn are_independent(program: &Program, one: Line, other: Line) -> bool {
+    match (program.accessed(one), program.accessed(other)) {
         (Some(one), Some(other)) => one != other,
         _ => true,
     }

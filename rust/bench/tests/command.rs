@@ -35,6 +35,26 @@ fn prints_a_line_for_each_program() {
 }
 
 #[test]
+fn families_with_fences_are_summed_up_apart() {
+    let mean = |lines: &[String], front: &str| {
+        let front = format!("{front}geometric mean of the ");
+        lines.iter().filter(|line| line.starts_with(&front)).count()
+    };
+    let printed = |arguments: &[&str]| -> Vec<String> {
+        String::from_utf8(run(arguments).stdout).unwrap().lines().map(String::from).collect()
+    };
+    let small = "below 7500 situations, ";
+    let both = printed(&["8", "fence"]);
+    let rows: Vec<&str> = both[2..8].iter().map(|line| &line[2..12]).collect();
+    assert_eq!(rows, ["fenced-2  ", "fenced-3  ", "fenced-4  ", "fence-2   ", "fence-3   ", "fence-4   "]);
+    assert_eq!((mean(&both, small), mean(&both, &format!("with fences, {small}"))), (1, 1), "{both:?}");
+    let only = printed(&["8", "fence-"]);
+    assert_eq!((mean(&only, small), mean(&only, &format!("with fences, {small}"))), (0, 1), "{only:?}");
+    let beside = printed(&["--index", "64", "8", "fence"]);
+    assert_eq!((mean(&beside, ""), mean(&beside, "with fences, ")), (1, 1), "{beside:?}");
+}
+
+#[test]
 fn the_steps_of_a_thread_alone_are_all_made() {
     let output = run(&["13", "news-2"]);
     let printed = String::from_utf8(output.stdout).unwrap();

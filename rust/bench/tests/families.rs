@@ -4,7 +4,7 @@
 use answer::Report;
 use bench::checkers::{plain, proved, Checker};
 use bench::families::{Family, Size, ALL};
-use program::{place_size, read};
+use program::{read, Program};
 use second::{Ending, Search};
 
 /// Larger programs are searched by the benchmark only, which holds them to the same.
@@ -23,7 +23,7 @@ fn programs(largest: usize) -> impl Iterator<Item = (&'static Family, &'static S
 fn robust(checker: Checker, family: &Family, size: &Size) -> Vec<u8> {
     let bytes = family.program(size);
     let program = read(&bytes).unwrap();
-    let place = place_size(program.threads.len(), program.locations.into());
+    let place = program.place_size();
     let mut table = vec![0; place * size.situations];
     let answer = checker(&bytes, &mut table, &mut [], &mut vec![0; 2 * size.situations]);
     let expected = Report::Robust { count: size.situations }.numbers();
@@ -48,6 +48,27 @@ fn the_second_checker_says_so_too() {
 }
 
 #[test]
+fn a_fence_takes_the_place_of_the_update() {
+    let [updates, fences] = ["fenced-", "fence-"].map(|name| {
+        let is_one = move |family: &&Family| family.name.starts_with(name);
+        ALL.iter().filter(is_one).collect::<Vec<_>>()
+    });
+    assert_eq!((updates.len(), fences.len()), (3, 3));
+    let fenced: Vec<&str> = ALL.iter().filter(|it| it.has_fences()).map(|it| it.name).collect();
+    assert_eq!(fenced, ["fence-2", "fence-3", "fence-4"]);
+    for (update, fence) in updates.into_iter().zip(fences) {
+        for (size, same) in update.sizes.iter().zip(fence.sizes) {
+            let [update, fence] = [update.program(size), fence.program(same)].map(|it| read(&it).unwrap());
+            assert_eq!(update.place_size(), fence.place_size());
+            let accessed = |program: &Program| -> Vec<Option<u8>> {
+                program.threads.iter().flatten().map(|&line| program.accessed(line)).collect()
+            };
+            assert_eq!(accessed(&update), accessed(&fence));
+        }
+    }
+}
+
+#[test]
 fn each_family_has_small_programs() {
     for family in ALL {
         let small: Vec<usize> = family.sizes.iter().take(2).map(|size| size.situations).collect();
@@ -59,7 +80,7 @@ fn each_family_has_small_programs() {
 fn places_of_a_family_have_one_size_and_programs_grow() {
     for family in ALL {
         let shape =
-            |size| read(&family.program(size)).map(|program| (program.threads.len(), program.locations));
+            |size| read(&family.program(size)).map(|it| (it.threads.len(), it.locations, it.has_fence()));
         assert!(family.sizes.iter().all(|size| shape(size) == shape(&family.sizes[0])), "{}", family.name);
         assert!(family.sizes.is_sorted_by(|less, more| less.situations < more.situations), "{}", family.name);
         assert_eq!(ALL.iter().filter(|other| other.name == family.name).count(), 1, "{}", family.name);

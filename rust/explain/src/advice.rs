@@ -1,64 +1,70 @@
 //! What would help, in words.
 
-use program::limits::{LINES, LOCATIONS};
+use program::limits::{LINES, LOCATIONS_BESIDE_A_FENCE};
 use program::Line;
 
-use crate::change::{fence_location, free_register, Change};
+use crate::change::{fence_locations, Change};
 use crate::explanation::Explanation;
 use crate::table::{wrapped, KEPT};
 use crate::trial::{Trial, Verdict};
 
-/// The verdicts in the order in which they are shown, each with its word and what is said of a change with it.
-const VERDICTS: [(Verdict, &str, &str); 6] = [
-    (Verdict::Robust, "robust", ""),
-    (Verdict::NotRobust, "not robust", ""),
-    (Verdict::Undecided, "undecided", ": the table of the quick check was too small"),
-    (Verdict::NoRoom, "not tried", ": a model has at most 16 locations, and a thread 64 lines"),
-    (Verdict::NoLine, "not tried", ": the language has none"),
-    (Verdict::Untried, "not tried", ": enough others were"),
+/// The verdicts in the order in which they are shown, each with its word.
+const VERDICTS: [(Verdict, &str); 6] = [
+    (Verdict::Robust, "robust"),
+    (Verdict::NotRobust, "not robust"),
+    (Verdict::Undecided, "undecided"),
+    (Verdict::NoRoom, "not tried"),
+    (Verdict::NoLine, "not tried"),
+    (Verdict::Untried, "not tried"),
 ];
-
-const _: () = assert!(*LOCATIONS.end() == 16 && *LINES.end() == 64, "VERDICTS names these");
 
 impl Explanation {
     /// The changes, each with what the checker says of the model with it, and of equal verdicts the smallest first.
     pub(crate) fn what_would_help(&self) -> String {
         let mut trials = self.trials();
         trials.sort_by_key(|trial| self.places(trial).len());
-        let fence = self.fence_in_words();
-        let title =
-            format!("What would help, and what the checker says of the model with it (a fence is {fence}):");
-        let mut text = wrapped("", &title);
-        for (verdict, word, more) in VERDICTS {
+        let mut text = wrapped("", &self.title());
+        for (verdict, word) in VERDICTS {
             for trial in trials.iter().filter(|trial| trial.verdict == verdict) {
-                text += &wrapped(&format!("  {word:10}  "), &(self.advice(trial) + more));
+                text += &wrapped(&format!("  {word:10}  "), &(self.advice(trial) + &self.more(verdict)));
             }
         }
         text
     }
 
-    /// What was tried as a fence: `FADD(f, 0)`.
-    fn fence_in_words(&self) -> String {
-        let [fadd, bcas] = match self.fence_location() {
-            Some(name) => {
-                ["FADD(_, 0)", "BCAS(_, 0 -> 0)"].map(|fence| fence.replace(' ', KEPT).replace('_', name))
-            }
-            None => ["FADD of 0 on a new location that only fences use", "BCAS from 0 to 0 on it"]
-                .map(String::from),
-        };
-        let tried = self.help.fences.iter().chain([&self.help.enough]).flat_map(|trial| &trial.changes);
-        let threads = tried.map(|&change| &self.source.program.threads[thread_of(change)]);
-        if threads.map(|lines| free_register(lines)).any(|free| free.is_none()) {
-            format!("{fadd}, or {bcas} where no register is free")
-        } else {
-            fadd
+    /// What is said of a change with the verdict.
+    fn more(&self, verdict: Verdict) -> String {
+        match verdict {
+            Verdict::Robust | Verdict::NotRobust => String::new(),
+            Verdict::Undecided => ": the table of the quick check was too small".into(),
+            Verdict::NoRoom => self.no_room(),
+            Verdict::NoLine => ": the language has none".into(),
+            Verdict::Untried => ": enough others were".into(),
         }
     }
 
-    /// The name of the location that fences use; none where it is a new one.
-    pub(crate) fn fence_location(&self) -> Option<&str> {
-        let location = fence_location(&self.source.program)?;
-        Some(&self.source.locations[usize::from(location)])
+    /// The limit that leaves no room for a fence: that of lines only where there is room for its location.
+    fn no_room(&self) -> String {
+        let most = LOCATIONS_BESIDE_A_FENCE.end();
+        if self.source.program.locations > *most {
+            format!(": a model with a fence has at most {most} locations")
+        } else {
+            format!(": a thread has at most {} lines", LINES.end())
+        }
+    }
+
+    /// Who has fences of an older form learns that those which are tried are others.
+    fn title(&self) -> String {
+        let older = fence_locations(&self.source.program);
+        let names: Vec<&str> = older.iter().map(|&location| self.name(location.into())).collect();
+        let apart = match names[..] {
+            [] => String::new(),
+            _ => format!(
+                " (a fence is the line 'fence'; those on {} are not ordered with it, and are best written so too)",
+                names.join(", ")
+            ),
+        };
+        format!("What would help, and what the checker says of the model with it{apart}:")
     }
 
     /// Those that the language has lines for, and last the others together.
@@ -115,7 +121,7 @@ impl Explanation {
 
     /// The read-modify-write that would stand in place of a line, with the value of a wait as it is written.
     fn update(&self, thread: usize, line: usize) -> String {
-        let name = |location: u8| &self.source.locations[usize::from(location)];
+        let name = |location: u8| self.name(location.into());
         match self.source.program.threads[thread][line] {
             Line::Read { location, .. } => format!("FADD({},{KEPT}0)", name(location)),
             Line::Wait { location, .. } => {
@@ -144,11 +150,5 @@ impl Explanation {
             Some((last, others)) => format!("{} and {last}", others.join(", ")),
             None => String::new(),
         }
-    }
-}
-
-fn thread_of(change: Change) -> usize {
-    match change {
-        Change::Fence { thread, .. } | Change::Update { thread, .. } => thread,
     }
 }

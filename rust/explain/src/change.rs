@@ -2,7 +2,7 @@
 
 use std::collections::BTreeSet;
 
-use program::limits::{LINES, LOCATIONS, REGISTERS};
+use program::limits::{LINES, LOCATIONS};
 use program::{Line, Operand, Program};
 
 /// A change of a program. Threads and their lines are counted from 0.
@@ -37,9 +37,6 @@ pub struct Changed {
 
 /// The program with the changes; nothing where its limits leave no room, a line has no counterpart that is a
 /// read-modify-write, or there is no such line.
-///
-/// There is no fence in the language yet: one is `FADD(f, 0)`, where f is the [`fence_location`] of the program or else a
-/// new one. As a read-modify-write always comes directly after the write that it reads, each reads the one before it.
 pub fn changed(program: &Program, changes: &[Change]) -> Option<Changed> {
     let mut threads = program.threads.clone();
     let mut fences = vec![BTreeSet::new(); threads.len()];
@@ -55,25 +52,20 @@ pub fn changed(program: &Program, changes: &[Change]) -> Option<Changed> {
             }
         }
     }
-    let location = fence_location(program).unwrap_or(program.locations);
-    let has_fence = fences.iter().any(|after| !after.is_empty());
-    let locations = if has_fence { program.locations.max(location + 1) } else { program.locations };
-    let fenced = threads.iter().zip(&fences).map(|(lines, after)| fenced(lines, after, location));
-    let (threads, lines): (Vec<Vec<Line>>, _) = fenced.unzip();
-    let fits = LOCATIONS.contains(&locations)
-        && threads.iter().all(|lines| lines.len() <= usize::from(*LINES.end()));
-    let program = Program { threads, locations, values: program.values };
-    fits.then_some(Changed { program, lines })
+    let fenced = threads.iter().zip(&fences).map(|(lines, after)| fenced(lines, after));
+    let (threads, lines) = fenced.unzip();
+    let program = Program { threads, ..*program };
+    fits(&program).then_some(Changed { program, lines })
 }
 
-/// The location of the program's own fences: the first that fences use and nothing else, or else the first that nothing
-/// uses; nothing where a fence needs a new one. Either is never anything but 0.
-pub fn fence_location(program: &Program) -> Option<u8> {
-    let is_unused = |location: &u8| accesses(program, *location).next().is_none();
-    fence_locations(program).first().copied().or((0..program.locations).find(is_unused))
+/// Whether the lines keep to the limits of a thread, and the locations, with that of the fences, to those of a program.
+fn fits(program: &Program) -> bool {
+    LOCATIONS.contains(&program.all_locations())
+        && program.threads.iter().all(|lines| lines.len() <= usize::from(*LINES.end()))
 }
 
-/// The locations that fences use, and nothing else does.
+/// The named locations that stand in for that of the fences: nothing but `FADD(f, 0)` and the like uses them, so that
+/// they are never anything but 0.
 pub fn fence_locations(program: &Program) -> Vec<u8> {
     let is_used = |location: &u8| accesses(program, *location).next().is_some();
     let is_own = |location: &u8| accesses(program, *location).all(is_fence);
@@ -85,7 +77,7 @@ fn accesses(program: &Program, location: u8) -> impl Iterator<Item = &Line> {
     program.threads.iter().flatten().filter(move |line| line.location() == Some(location))
 }
 
-/// Whether the line is a fence on a location that is never anything but 0.
+/// Whether the line is a fence if its location is never anything but 0.
 fn is_fence(line: &Line) -> bool {
     const ZERO: Operand = Operand::Constant(0);
     matches!(
@@ -105,13 +97,12 @@ pub fn counterpart(line: &Line) -> Option<Line> {
 }
 
 /// The lines with a fence after each of these, and what each was before.
-fn fenced(lines: &[Line], after: &BTreeSet<usize>, location: u8) -> (Vec<Line>, Vec<Option<usize>>) {
-    let fence = fence(lines, location);
+fn fenced(lines: &[Line], after: &BTreeSet<usize>) -> (Vec<Line>, Vec<Option<usize>>) {
     let mut found = Vec::new();
     for (place, &line) in lines.iter().enumerate() {
         found.push((moved(line, after), Some(place)));
         if after.contains(&place) {
-            found.push((fence, None));
+            found.push((Line::Fence, None));
         }
     }
     found.into_iter().unzip()
@@ -127,33 +118,4 @@ fn moved(line: Line, after: &BTreeSet<usize>) -> Line {
         }
         other => other,
     }
-}
-
-/// A fence: into a register that the thread does not use, or, where it uses all, as a BCAS, which needs none.
-fn fence(lines: &[Line], location: u8) -> Line {
-    let zero = Operand::Constant(0);
-    match free_register(lines) {
-        Some(reg) => Line::Fadd { reg, location, a: zero },
-        None => Line::Bcas { location, a: zero, b: zero },
-    }
-}
-
-/// The first register that the thread does not use.
-pub(crate) fn free_register(lines: &[Line]) -> Option<u8> {
-    (0..REGISTERS).find(|&reg| !lines.iter().any(|line| uses(line, reg)))
-}
-
-/// Whether the line reads or changes the register.
-fn uses(line: &Line, register: u8) -> bool {
-    let (reg, operands) = match *line {
-        Line::Sum { reg, a, b } | Line::Equal { reg, a, b } | Line::Less { reg, a, b } => {
-            (Some(reg), [Some(a), Some(b)])
-        }
-        Line::Cas { reg, a, b, .. } => (Some(reg), [Some(a), Some(b)]),
-        Line::Bcas { a, b, .. } => (None, [Some(a), Some(b)]),
-        Line::Jump { a, .. } | Line::Write { a, .. } | Line::Wait { a, .. } => (None, [Some(a), None]),
-        Line::Read { reg, .. } => (Some(reg), [None; 2]),
-        Line::Fadd { reg, a, .. } => (Some(reg), [Some(a), None]),
-    };
-    reg == Some(register) || operands.contains(&Some(Operand::Register(register)))
 }

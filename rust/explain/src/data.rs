@@ -9,29 +9,30 @@ use crate::json::Json;
 use crate::trial::{Trial, Verdict};
 
 /// The number of this form. Members may be added under it; one that goes or changes its meaning gets another.
-const FORMAT: usize = 1;
+const FORMAT: usize = 2;
 
 impl Explanation {
     /// The explanation as an object. Threads, steps and lines of the text count from 1, the ids of events from 0; what
     /// an entry does not have is `null`.
     ///
-    /// - `format`: 1.
+    /// - `format`: 2.
     /// - `verdict`: `"not_robust"`.
     /// - `disassembled`: whether the model came as bytes, so that lines are those of its disassembly.
-    /// - `locations`: the names of the locations.
+    /// - `locations`: the names of the locations, last `"fence"` for that of the fences, where the model has some.
     /// - `steps`: the run, the stale access last. Each has `step`, `thread`, `line`, `statement`, and `event`, the id
     ///   of its event, `null` for a line that makes no access.
     /// - `events`: the graph, first the starting writes, then the events of the steps. Each has `id`; `step`, `thread`
     ///   and `line`, `null` for a starting write; `kind`, which is `"read"`, `"write"` or `"update"`, a
-    ///   read-modify-write; `location`, its name; `read` and `written`, values; `reads_from`, the id of a write.
+    ///   read-modify-write and so a fence; `location`, its name; `read` and `written`, values; `reads_from`, the id of a
+    ///   write.
     /// - `modification_orders`: for each location, as in `locations`, the ids of its writes, the newest last.
     /// - `stale`: `event`, the id of the stale access, `picked`, that of the write which it uses, and `newest`, that
     ///   of the newest write before it.
     /// - `cycle`: the edges from the stale access back to it. Each has `from` and `to`, ids, and `relation`: `"po"` is
     ///   program order, `"rf"` reads from, `"mo"` modification order, `"fr"` from-read.
     /// - `help`: `fences` and `updates`, the trials of changes on the cycle; `enough`, the trial of a small set of
-    ///   fences that makes the model robust, or else of the last set that was considered; `fence_location`, the name
-    ///   of the location of the model that fences use, `null` for a new one; `checks`, how often the checker was asked.
+    ///   fences that makes the model robust, or else of the last set that was considered; `checks`, how often the
+    ///   checker was asked.
     ///
     /// A trial has `changes`, which are made together, and `verdict`: `"robust"`, `"not_robust"`, `"undecided"` (the
     /// table of the quick check was full), or, where the checker was not asked, `"no_room"` (the limits of a model),
@@ -46,7 +47,7 @@ impl Explanation {
             ("format", FORMAT.into()),
             ("verdict", "not_robust".into()),
             ("disassembled", Json::Bool(self.is_disassembly)),
-            ("locations", Json::list(&self.source.locations, |name| name.as_str().into())),
+            ("locations", Json::list(self.source.names(), Json::from)),
             ("steps", Json::list(0..execution.steps.len(), |place| self.step_data(place))),
             ("events", Json::list(0..execution.events.len(), |id| self.event_data(id))),
             ("modification_orders", Json::list(&execution.orders, ids)),
@@ -99,7 +100,6 @@ impl Explanation {
             ("fences", trials(&self.help.fences)),
             ("updates", trials(&self.help.updates)),
             ("enough", self.trial_data(&self.help.enough)),
-            ("fence_location", self.fence_location().into()),
             ("checks", self.help.checks.into()),
         ])
     }

@@ -62,8 +62,8 @@ fn tried_updates(trials: &mut Trials, updates: Vec<(Group, bool)>) -> Vec<Trial>
     tried
 }
 
-/// A fence for each edge of program order on the cycle, by the line that a step was in the model; none where a step
-/// is no line of it.
+/// A fence for each edge of program order on the cycle without one, by the line that a step was in the model; none where
+/// a step is no line of it.
 pub(crate) fn fences(
     source: &Source,
     execution: &Execution,
@@ -77,7 +77,16 @@ pub(crate) fn fences(
         Some(fences.collect())
     };
     let in_program_order = cycle.iter().filter(|edge| edge.relation == Relation::ProgramOrder);
-    in_order(in_program_order.filter_map(fence).collect())
+    let bare = in_program_order.filter(|&&edge| !has_fence(source, execution, edge));
+    in_order(bare.filter_map(fence).collect())
+}
+
+/// Whether one of the two accesses is a fence, or a fence comes between them: another would be one too many. There is
+/// always an edge without, as fences are in one order, and no cycle goes round in that.
+fn has_fence(source: &Source, execution: &Execution, edge: Edge) -> bool {
+    let of_fences = usize::from(source.program.locations);
+    let mut events = execution.events[edge.from..=edge.to].iter();
+    events.any(|event| event.thread == execution.events[edge.from].thread && event.location == of_fences)
 }
 
 /// The accesses of the cycle that are no read-modify-writes, and whether the language has one in place of each.

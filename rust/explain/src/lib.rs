@@ -25,7 +25,7 @@ mod text;
 mod trial;
 mod words;
 
-pub use change::{changed, counterpart, fence_location, fence_locations, Change, Changed};
+pub use change::{changed, counterpart, fence_locations, Change, Changed};
 pub use check::{holds, is_cycle};
 pub use edge::{Edge, Relation};
 pub use execution::{Event, Execution, Taken};

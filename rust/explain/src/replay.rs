@@ -23,7 +23,7 @@ impl Execution {
         let after = state.ra_step(program, thread, picked)?;
         taken.push(due(&state, thread));
         let events = events(after.graph(), &taken);
-        let orders = (0..program.locations.into()).map(|it| after.graph().order(it).to_vec()).collect();
+        let orders = (0..program.all_locations().into()).map(|it| after.graph().order(it).to_vec()).collect();
         Some(Execution { steps: taken, events, orders, picked, newest })
     }
 }

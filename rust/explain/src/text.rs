@@ -45,11 +45,13 @@ impl Explanation {
         ]
     }
 
-    /// What an access does, and whose value it reads.
+    /// What an access does, and whose value it reads; of a fence the one that it comes after.
     fn effect(&self, event: usize) -> String {
         let (access, what) = (self.access(event), &self.execution.events[event]);
         match (what.kind, what.source.map(|write| self.step(write))) {
             (_, None) => access,
+            (_, Some(0)) if self.is_fence(event) => format!("{access}, the first"),
+            (_, Some(step)) if self.is_fence(event) => format!("{access}, after that of step {step}"),
             (Kind::Update, Some(0)) => format!("{access} (from the starting value)"),
             (Kind::Update, Some(step)) => format!("{access} (from step {step})"),
             (_, Some(0)) => format!("{access} (starting value)"),
@@ -85,9 +87,10 @@ impl Explanation {
             + &table("  ", &rows)
     }
 
-    fn edge_row(&self, Edge { from, to, relation }: Edge) -> Vec<String> {
+    fn edge_row(&self, edge: Edge) -> Vec<String> {
+        let Edge { from, to, .. } = edge;
         let before = [vec![self.step(from).to_string()], self.thread_and_line(from), vec![self.access(from)]];
-        let after = [relation.words().into(), self.step(to).to_string(), self.access(to)];
+        let after = [self.relation(edge).into(), self.step(to).to_string(), self.access(to)];
         before.concat().into_iter().chain(after).collect()
     }
 }

@@ -2,7 +2,7 @@
 
 use answer::Kind;
 
-use crate::edge::Relation;
+use crate::edge::{Edge, Relation};
 use crate::execution::Taken;
 use crate::explanation::Explanation;
 use crate::table::KEPT;
@@ -19,13 +19,27 @@ impl Explanation {
         words.join(" ")
     }
 
-    /// The name of the location of an event.
-    pub(crate) fn location(&self, event: usize) -> &str {
-        &self.source.locations[self.execution.events[event].location]
+    /// The name of a location, that of the fences included.
+    pub(crate) fn name(&self, location: usize) -> &str {
+        self.source.name(location).expect("a run has no other locations than its model")
     }
 
-    /// What an access does: `writes x = 1`, `reads x = 1`, or `x: 1 -> 2` for a read-modify-write.
+    /// The name of the location of an event.
+    pub(crate) fn location(&self, event: usize) -> &str {
+        self.name(self.execution.events[event].location)
+    }
+
+    /// Whether an event is a fence.
+    pub(crate) fn is_fence(&self, event: usize) -> bool {
+        self.source.is_fence(self.execution.events[event].location)
+    }
+
+    /// What an access does: `writes x = 1`, `reads x = 1`, or `x: 1 -> 2` for a read-modify-write. The values of a fence
+    /// are always 0, and left out.
     pub(crate) fn access(&self, event: usize) -> String {
+        if self.is_fence(event) {
+            return "a fence".into();
+        }
         let (name, what) = (self.location(event), &self.execution.events[event]);
         let value = |value: Option<u8>| value.map_or_else(String::new, |value| value.to_string());
         let (read, written) = (value(what.read), value(what.written));
@@ -68,9 +82,21 @@ impl Explanation {
     }
 }
 
+impl Explanation {
+    /// What the event that comes before is to the one after it. Of fences each reads the one before it, so that all
+    /// their relations are one order.
+    pub(crate) fn relation(&self, edge: Edge) -> &'static str {
+        match edge.relation {
+            Relation::ProgramOrder => edge.relation.words(),
+            _ if self.is_fence(edge.from) => "fence order",
+            _ => edge.relation.words(),
+        }
+    }
+}
+
 impl Relation {
     /// What the event that comes before is to the one after it.
-    pub(crate) fn words(self) -> &'static str {
+    fn words(self) -> &'static str {
         match self {
             Relation::ProgramOrder => "program order",
             Relation::ReadsFrom => "read by",

@@ -5,7 +5,7 @@ use std::fmt::{self, Display};
 use program::limits::LOCATIONS;
 use program::{read, Line, Operand, Program};
 
-use crate::names::register_name;
+use crate::names::{register_name, FENCE};
 
 /// A text for the bytes, or the number of the first check of document 01 that they fail.
 pub fn disassemble(bytes: &[u8]) -> Result<String, u8> {
@@ -62,6 +62,7 @@ fn text(line: &Line) -> String {
         }
         Line::Wait { location, a } => format!("wait({} = {})", name(location), value(a)),
         Line::Bcas { location, a, b } => format!("BCAS({}, {} -> {})", name(location), value(a), value(b)),
+        Line::Fence => FENCE.into(),
     }
 }
 

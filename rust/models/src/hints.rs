@@ -1,6 +1,7 @@
 //! Hints for what is nearly right. There is one only where the line leaves little doubt about what was meant.
 
 mod accesses;
+mod fences;
 mod orders;
 mod signs;
 mod values;
@@ -10,7 +11,7 @@ use crate::cursor::Cursor;
 use crate::instruction::{all_registers, Scope};
 use crate::lexer::Piece::{self, EndOfFile, EndOfLine, Number, Sign, Stray, Word};
 use crate::mistake::Mistake;
-use crate::names::{is_kept_for_registers, register, Kind, KEYWORDS};
+use crate::names::{is_kept_for_registers, register, Kind, FENCE, KEYWORDS};
 use crate::nearest::nearest;
 
 /// A longer hint has a very long name in it, and helps nobody.
@@ -41,6 +42,8 @@ pub fn add(mistake: Mistake, cursor: &Cursor, scope: &Scope) -> Mistake {
     let hint = early(&rest)
         .filter(|_| is_due(&["'values'"]))
         .or_else(|| header(line, &rest))
+        .or_else(|| fences::taken(line, &rest, &mistake.expected, scope))
+        .or_else(|| fences::with_path(line, &rest).filter(|_| !no_line))
         .or_else(|| no_thread(&rest, scope).filter(|_| is_due(&["'thread'"])))
         .or_else(|| accesses::change(line, &rest, scope))
         .or_else(|| signs::hint(line, &rest, scope))
@@ -48,6 +51,7 @@ pub fn add(mistake: Mistake, cursor: &Cursor, scope: &Scope) -> Mistake {
         .or_else(|| values::hint(line, &rest, scope))
         .or_else(|| words_of_c::hint(line, &rest, scope).filter(|_| !no_line))
         .or_else(|| word(line, &rest, scope).filter(|_| !no_word))
+        .or_else(|| fences::undeclared(line, &rest))
         .filter(|hint| hint.len() <= LONGEST_HINT);
     Mistake { hint, ..mistake }
 }
@@ -81,9 +85,8 @@ fn header(before: &[Piece], rest: &[Piece]) -> Option<String> {
 fn no_thread(rest: &[Piece], scope: &Scope) -> Option<String> {
     let is_line = match rest {
         [Word(word), ..] if nearest(word, KEYWORDS).is_some() => false,
-        [Word("if" | "goto" | "wait" | "BCAS" | "FADD" | "CAS"), ..] | [Word(_), Sign(":=" | ":"), ..] => {
-            true
-        }
+        [Word("if" | "goto" | "wait" | "BCAS" | "FADD" | "CAS" | FENCE), ..]
+        | [Word(_), Sign(":=" | ":"), ..] => true,
         [first, ..] => is_location(first, scope) || scope.register_of(*first).is_some(),
         [] => false,
     };
@@ -108,14 +111,15 @@ fn word(before: &[Piece], rest: &[Piece], scope: &Scope) -> Option<String> {
     found.filter(|name| !is_other_step(word, name)).map(|name| format!("did you mean '{name}'?"))
 }
 
-/// Whether a word near that of an atomic step may well be that of a weaker one: ADD and XADD are near FADD, CASA and
-/// CASL near CAS.
+/// Whether a word near that of an atomic step or a fence may well be that of a weaker one: ADD and XADD are near FADD,
+/// CASA and CASL near CAS.
 fn is_other_step(word: &str, name: &str) -> bool {
     let ends = |text: &str| {
         let bytes = text.as_bytes();
         [bytes.first(), bytes.last()].map(|end| end.map(u8::to_ascii_lowercase))
     };
-    matches!(name, "FADD" | "CAS" | "BCAS") && ends(word) != ends(name)
+    let is_several = name == FENCE && word.eq_ignore_ascii_case("fences");
+    matches!(name, "FADD" | "CAS" | "BCAS" | FENCE) && ends(word) != ends(name) && !is_several
 }
 
 /// The register in front of `:=`, or else a free one, with what is to be said of that.

@@ -2,13 +2,13 @@
 
 use std::ops::RangeInclusive;
 
-use program::limits::REGISTERS;
+use program::limits::{LOCATIONS_BESIDE_A_FENCE, REGISTERS};
 use program::{Line, Operand};
 
 use crate::cursor::Cursor;
 use crate::lexer::{Piece, Token};
 use crate::mistake::Mistake;
-use crate::names::{register, register_name, with_names, Kind, Names};
+use crate::names::{register, register_name, with_names, Kind, Names, FENCE};
 
 /// What holds where a line stands: the number of values, and the names.
 #[derive(Clone, Default)]
@@ -19,6 +19,9 @@ pub struct Scope<'a> {
 
 /// What a jump goes to.
 const A_LABEL: &str = "a label of this thread";
+
+/// What a mistake says of a number that is too large.
+pub const AT_MOST: &str = "at most";
 
 /// A line, but a jump still with its label, which may stand further down.
 pub enum Instruction<'a> {
@@ -42,6 +45,8 @@ impl<'a> Scope<'a> {
         } else if cursor.take_if("BCAS") {
             let (location, a, b) = self.exchange(cursor)?;
             Line::Bcas { location, a, b }
+        } else if cursor.peek().piece == Piece::Word(FENCE) {
+            self.fence(cursor)?
         } else if let Some(reg) = self.register_at(cursor) {
             cursor.take();
             cursor.expect(":=")?;
@@ -52,7 +57,7 @@ impl<'a> Scope<'a> {
             Line::Write { location, a: self.operand(cursor)? }
         } else {
             return Err(cursor.mistake(format!(
-                "a line that starts with {}, {}, 'if', 'goto', 'wait' or 'BCAS'",
+                "a line that starts with {}, {}, 'if', 'goto', 'wait', 'BCAS' or 'fence'",
                 self.a_register(),
                 self.a_location()
             )));
@@ -92,6 +97,17 @@ impl<'a> Scope<'a> {
         } else {
             Ok(Line::Sum { reg, a, b: Operand::Constant(0) })
         }
+    }
+
+    /// `fence`, where the named locations leave room for its own.
+    fn fence(&self, cursor: &mut Cursor<'a>) -> Result<Line, Mistake> {
+        let (named, most) = (self.names.of_kind(Kind::Location).len(), *LOCATIONS_BESIDE_A_FENCE.end());
+        if named > most.into() {
+            let mistake = cursor.mistake(format!("{AT_MOST} {most} locations beside a fence"));
+            return Err(Mistake { found: named.to_string(), ..mistake });
+        }
+        cursor.take();
+        Ok(Line::Fence)
     }
 
     /// `(x = 1)` after `wait`.

@@ -43,7 +43,7 @@ The lines, for registers r0 to r3 and locations x: each 1 and 2 may be a value o
     again:         if 1 goto again               goto again (short for if 1 goto again)
     x := 1         r0 := x
     r0 := FADD(x, 1)              r0 := CAS(x, 1 -> 2)
-    wait(x = 1)                   BCAS(x, 1 -> 2)
+    wait(x = 1)                   BCAS(x, 1 -> 2)               fence
 
 'thread * 3' is three equal threads. Names for values and registers stand before or after
 the locations, or directly after 'thread' and then hold there:

@@ -10,8 +10,23 @@ use crate::mistake::Mistake;
 use crate::text::shortened;
 
 /// The words with a meaning of their own.
-pub const KEYWORDS: &[&str] =
-    &["values", "locations", "constants", "registers", "thread", "if", "goto", "wait", "FADD", "CAS", "BCAS"];
+pub const KEYWORDS: &[&str] = &[
+    "values",
+    "locations",
+    "constants",
+    "registers",
+    "thread",
+    "if",
+    "goto",
+    "wait",
+    "FADD",
+    "CAS",
+    "BCAS",
+    FENCE,
+];
+
+/// The line that is a fence. As no location has this name, the one of the fences is called so.
+pub const FENCE: &str = "fence";
 
 /// The register that the word names: r0 to r3.
 pub fn register(word: &str) -> Option<u8> {

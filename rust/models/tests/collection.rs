@@ -67,6 +67,16 @@ fn the_litmus_programs_of_the_source_expect_what_it_says() {
     }
 }
 
+/// Document 02, Point 5, by the outputs that were agreed for it.
+#[test]
+fn the_models_with_fences_are_reported_so() {
+    let two_fences = ["sb+fences", "2+2w+fences"].map(|name| collection::named(name).unwrap().report);
+    assert_eq!(two_fences, ["RB 26\n", "RB 58\n"]);
+    let one = collection::named("sb+fence").unwrap().report;
+    let lines: Vec<_> = one.lines().collect();
+    assert_eq!((lines[0], lines[2]), ("NR 11 4 2 R 0 0", "ST 1 M 2 0"));
+}
+
 /// Document 02, Point 3: "The page queue model has eleven."
 #[test]
 fn the_page_ring_uses_eleven_locations() {
@@ -116,7 +126,7 @@ fn the_models_use_every_op_and_registers_as_operands() {
     let lines: Vec<Line> =
         all().iter().flat_map(|model| read(&model.bytes).unwrap().threads).flatten().collect();
     let ops: BTreeSet<u8> = lines.iter().map(|line| fields(line)[0]).collect();
-    assert_eq!(ops, (1..=10).collect());
+    assert_eq!(ops, (1..=11).collect());
     assert!(lines.iter().any(|line| matches!(line, Line::Write { a: Operand::Register(_), .. })));
 }
 

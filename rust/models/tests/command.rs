@@ -139,6 +139,18 @@ fn a_mistake_has_its_file_line_and_column_and_leaves_no_output() {
 }
 
 #[test]
+fn a_fence_beside_sixteen_locations_leaves_no_output() {
+    let test = "full";
+    let text = "values 2\nlocations a b c d e f g h i j k l m n o p\nthread\n  fence\n";
+    let what = "4:3: expected at most 15 locations beside a fence, found 16\n  \
+        hint: a fence has a location of its own, and 16 are the most: leave one out of 'locations'\n";
+    bad(&run(test, &["-", "-o", "never"], text.as_bytes()), 1, &format!("standard input:{what}"));
+    assert!(!directory(test).join("never").exists());
+    let bytes = b"PR\x01\x0f\x02TH\x01IN\x0b\x00\x00\x00\x00";
+    good(&run(test, &[], text.replace(" p", "").as_bytes()), bytes);
+}
+
+#[test]
 fn refused_bytes_get_the_check_that_failed_in_words_and_leave_no_output() {
     let test = "refused";
     let message = |check| {
@@ -151,6 +163,8 @@ fn refused_bytes_get_the_check_that_failed_in_words_and_leave_no_output() {
     for bytes in [b"PR\x01\x01\x01TH\x00", b"PR\x01\x00\x02TH\x00", b"PR\x01\x11\x02TH\x00"] {
         bad(&run(test, &["--dis"], bytes), 1, &second);
     }
+    let full = message("12 failed, a program with op 11, a fence, must have an L of at most 15");
+    bad(&run(test, &["--dis"], b"PR\x01\x10\x02TH\x01IN\x0b\x00\x00\x00\x00"), 1, &full);
     let last = message("9 failed, the input must end after the last record");
     bad(&run(test, &["--dis", "-o", "never"], &[SB_BYTES, b"\n"].concat()), 1, &last);
     assert!(!directory(test).join("never").exists());
@@ -251,8 +265,13 @@ fn help_shows_a_model_that_assembles() {
     good(&run("help", &[], &help.as_bytes()[start..end]), SB_BYTES);
     assert_eq!(run("help", &["-h"], b"").stdout, help.as_bytes());
     // Every short form that it names is one.
-    let lines =
-        ["goto again", "'thread * 3'", "constants empty = 0 full = 1", "registers mine = r0 other = r1"];
+    let lines = [
+        "goto again",
+        "fence\n",
+        "'thread * 3'",
+        "constants empty = 0 full = 1",
+        "registers mine = r0 other = r1",
+    ];
     assert!(lines.iter().all(|line| help.contains(line)));
     assert!(help.lines().all(|line| line.chars().count() < 96));
 }

@@ -61,7 +61,7 @@ fn the_reader_that_polls_has_more_situations_than_the_one_that_waits() {
 #[test]
 fn only_both_fences_together_are_too_many() {
     let text = document("docs/MODELLING.md");
-    let fence = "  r3 := FADD(f, 0)\n";
+    let fence = "  fence\n";
     let parts: Vec<_> = models_in(&text)[1].split(fence).collect();
     let [start, middle, end] = parts[..] else { panic!("{parts:?}") };
     for (first, second) in [("", ""), (fence, ""), ("", fence)] {
@@ -96,6 +96,32 @@ fn every_report_of_a_command_is_the_stored_one() {
         let lines = rest.lines().map_while(|line| line.strip_prefix("    "));
         let printed: String = lines.map(|line| format!("{line}\n")).collect();
         assert_eq!(printed, collection::named(name).unwrap().report, "{name}");
+    }
+}
+
+/// "Don't mix the two": of a fence on f and the line the one does not order the other.
+#[test]
+fn fences_of_two_forms_are_apart() {
+    let model = |[first, second]: [&str; 2]| {
+        let threads = format!("thread\nx := 1\n{first}\nr0 := y\nthread\ny := 1\n{second}\nr0 := x\n");
+        search(&format!("values 2\nlocations x y f\n{threads}")).0
+    };
+    let [fadd, bcas, fence] = ["r3 := FADD(f, 0)", "BCAS(f, 0 -> 0)", "fence"];
+    for same in [[fadd, fadd], [fadd, bcas], [bcas, bcas], [fence, fence]] {
+        assert_eq!(model(same), Verdict::Robust, "{same:?}");
+    }
+    for apart in [[fadd, fence], [fence, bcas]] {
+        assert_eq!(model(apart), Verdict::NotRobust, "{apart:?}");
+    }
+}
+
+#[test]
+fn the_reports_in_the_format_are_the_stored_ones() {
+    let text = document("docs/FORMAT.md");
+    for name in ["sb", "sb+fence"] {
+        let report = collection::named(name).unwrap().report;
+        let shown: String = report.lines().map(|line| format!("    {line}\n")).collect();
+        assert!(text.contains(&format!("\n\n{shown}\n")), "{name}:\n{shown}");
     }
 }
 

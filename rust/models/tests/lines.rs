@@ -56,6 +56,7 @@ fn each_kind_of_line_has_its_op_and_fields() {
         ("wait(y = r1)", [9, 0, 1, 129, 0]),
         ("BCAS(x, 0 -> 1)", [10, 0, 0, 0, 1]),
         ("BCAS(y, r0 -> 4)", [10, 0, 1, 128, 4]),
+        ("fence", [11, 0, 0, 0, 0]),
     ] {
         assert_eq!(lines(text), record(fields), "{text}");
     }

@@ -27,7 +27,7 @@ fn expect_line(line: &str, expected: &str) {
 
 const OPERAND: &str = "a value from 0 to 2 or a register (r0 to r3)";
 const START: &str =
-    "a line that starts with a register (r0 to r3), a location (x, y), 'if', 'goto', 'wait' or 'BCAS'";
+    "a line that starts with a register (r0 to r3), a location (x, y), 'if', 'goto', 'wait', 'BCAS' or 'fence'";
 
 #[test]
 fn a_header_comes_first() {
@@ -152,6 +152,42 @@ fn accesses_with_brackets() {
     expect_line("r0 := FADD(r0, 1)", &format!("4:12: expected {location}, found 'r0'"));
     expect_line("r0 := FADD(x)", "4:13: expected ',', found ')'");
     expect_line("r0 := FADD(x, 1 -> 2)", "4:17: expected ')', found '->'");
+}
+
+#[test]
+fn a_fence_is_a_word_alone_on_its_line() {
+    expect_line("fence()", "4:6: expected the end of the line, found '('");
+    expect_line("fence x", "4:7: expected the end of the line, found 'x'");
+    expect_line("fence := 1", "4:7: expected the end of the line, found ':='");
+    expect_line("wait(fence = 1)", "4:6: expected a location (x, y), found 'fence'");
+    expect_line("x := fence", &format!("4:6: expected {OPERAND}, found 'fence'"));
+    expect_line("Fence", &format!("4:1: expected {START}, found 'Fence'"));
+}
+
+#[test]
+fn nothing_has_the_name_of_a_fence() {
+    let taken = "found 'fence', a word of the language";
+    let header = |line: &str| format!("values 2\n{line}\nthread\n");
+    expect(&header("locations x fence"), &format!("2:13: expected a name for a location, {taken}"));
+    let constant = header("constants fence = 1\nlocations x");
+    expect(&constant, &format!("2:11: expected a name for a constant, {taken}"));
+    let register = header("locations x\nregisters fence = r1");
+    expect(&register, &format!("3:11: expected a name for a register, {taken}"));
+    expect_line("fence: x := 1", &format!("4:1: expected a name for a label, {taken}"));
+    assert!(assemble(header("locations Fence fences f\nconstants FENCE = 1").as_bytes()).is_ok());
+}
+
+/// The assembler says so, and leaves no program to the checker that it would refuse.
+#[test]
+fn a_fence_needs_room_for_its_location() {
+    let model = |locations: &str, lines: &str| format!("values 2\nlocations {locations}\nthread\n{lines}\n");
+    let most = "a b c d e f g h i j k l m n o";
+    assert!(assemble(model(most, "fence").as_bytes()).is_ok());
+    let all = format!("{most} p");
+    assert!(assemble(model(&all, "p := 1").as_bytes()).is_ok());
+    let message = "expected at most 15 locations beside a fence, found 16";
+    expect(&model(&all, "  fence"), &format!("4:3: {message}"));
+    expect(&model(&all, "p := 1\nthread\n q: fence\nfence"), &format!("6:5: {message}"));
 }
 
 #[test]

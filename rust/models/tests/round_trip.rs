@@ -99,6 +99,17 @@ L1:
 }
 
 #[test]
+fn a_fence_is_written_as_one() {
+    let text = "values 2\nlocations x\nthread\n  x := 1\n  fence\nthread\n  fence\n";
+    let bytes = assemble(text.as_bytes()).unwrap();
+    assert_eq!(disassemble(&bytes).as_deref(), Ok(text));
+    let fences = [b"PR\x01\x0f\x02TH\x02".as_slice(), &b"IN\x0b\x00\x00\x00\x00".repeat(2)].concat();
+    goes_round(&fences);
+    let full = [b"PR\x01\x10\x02TH\x02".as_slice(), &fences[8..]].concat();
+    assert_eq!(disassemble(&full), Err(12));
+}
+
+#[test]
 fn an_operand_alone_is_written_out() {
     let bytes = assemble(b"values 2\nlocations flag\nthread\nr0 := 1\nflag := r0\n").unwrap();
     let text = "values 2\nlocations x\nthread\n  r0 := 1 + 0\n  x := r0\n";

@@ -66,7 +66,7 @@ fn there_are_8_threads_in_all() {
 }
 
 const START: &str =
-    "a line that starts with a register (r0 to r3), a location (x, y), 'if', 'goto', 'wait' or 'BCAS'";
+    "a line that starts with a register (r0 to r3), a location (x, y), 'if', 'goto', 'wait', 'BCAS' or 'fence'";
 
 #[test]
 fn goto_alone_is_a_jump_that_is_always_taken() {

@@ -141,7 +141,8 @@ pub fn seconds(time: Duration) -> String {
 fn undecided(input: &Input, count: usize, lent: Lent) -> String {
     format!(
         "{}: undecided: no witness in {}, and there are more than a table of {} holds. \
-         Try a longer one (--table {}), or a smaller model: fewer threads, rounds, values or locations",
+         Try a longer one (--table {}), or a smaller model: fewer threads, rounds, values, locations or \
+         fences",
         input.name,
         situations(count),
         shown(lent.table),

@@ -12,6 +12,7 @@ mod reached;
 mod reason;
 mod show;
 mod status;
+mod staying;
 mod words;
 
 use std::process::ExitCode;

@@ -2,7 +2,6 @@
 
 use answer::Report;
 use models::Source;
-use order_check::place_size;
 use program::limits::REGISTERS;
 use program::{Line, Operand, Program};
 
@@ -24,10 +23,10 @@ pub fn reached(program: &Program, report: &Report, table: &[u8]) -> Option<Reach
     let Report::Robust { count } = *report else {
         return None;
     };
-    let Program { threads, locations, .. } = program;
+    let threads = &program.threads;
     let none: Vec<Vec<bool>> = threads.iter().map(|lines| vec![false; lines.len()]).collect();
     let mut reached = Reached { lines: none.clone(), passed: none };
-    for place in table.chunks_exact(place_size(threads.len(), usize::from(*locations))).take(count) {
+    for place in table.chunks_exact(program.place_size()).take(count) {
         for (thread, lines) in threads.iter().enumerate() {
             let at = usize::from(place[HEAD + thread]);
             // A thread at its end has no line.

@@ -1,14 +1,14 @@
 //! What a verdict means, in words.
 
 use answer::Report;
-use explain::fence_locations;
 use models::Source;
 use program::{what_check_asks, Line, Operand, Program};
 
 use crate::decide::{seconds, situations, Decided};
 use crate::input::Input;
 use crate::memory::shown;
-use crate::reached::{lines_where, unreached};
+use crate::reached::unreached;
+use crate::staying::staying;
 
 /// What a report means that has no graph; nothing for a verdict that is not known.
 pub fn meaning(input: &Input, decided: &Decided) -> String {
@@ -22,12 +22,6 @@ pub fn meaning(input: &Input, decided: &Decided) -> String {
 
 /// What RB allows, and what it does not speak of.
 fn robust(source: &Source, decided: &Decided) -> String {
-    let fences = fences(source);
-    let fences = if fences.is_empty() {
-        String::new()
-    } else {
-        format!("    {:<48} stay seq_cst fences\n", format!("fences: {}", lines(&fences)))
-    };
     format!(
         "Robust: every release/acquire run of this model, of any length, ends in thread\n\
          states and an execution graph that some sequentially consistent run reaches too.\n\
@@ -37,13 +31,14 @@ fn robust(source: &Source, decided: &Decided) -> String {
          stores: x := 1                                   to release\n    \
          loads: r0 := x, wait(x = 1), a CAS that fails    to acquire\n    \
          read-modify-writes: FADD, CAS, BCAS              to acquire and release\n\
-         {fences}\
+         {}\
          \n\
          What this does not say:\n\
          \n\
          - The model is what was checked: is it what your routine does?\n\
          - Every access of the model is atomic. Plain data is outside.\n\
          {}{}",
+        staying(source),
         sums(&source.program),
         gaps(source, decided).map_or(String::new(), |gaps| item(&format!("In this model {gaps}.")))
     )
@@ -51,25 +46,22 @@ fn robust(source: &Source, decided: &Decided) -> String {
 
 /// An item of a list, in lines of at most 80 columns.
 fn item(text: &str) -> String {
-    let mut lines = vec![String::from("-")];
-    for word in text.split(' ') {
-        let last = lines.last_mut().expect("the first one");
-        if last.chars().count() + 1 + word.chars().count() <= 80 {
-            *last += &format!(" {word}");
-        } else {
-            lines.push(format!("  {word}"));
-        }
-    }
-    lines.join("\n") + "\n"
+    wrapped("- ", text, 80).join("\n") + "\n"
 }
 
-/// The lines of the text that are fences.
-fn fences(source: &Source) -> Vec<usize> {
-    let own = fence_locations(&source.program);
-    let is_fence = |thread: usize, line: usize| {
-        source.program.threads[thread][line].location().is_some_and(|location| own.contains(&location))
-    };
-    lines_where(source, is_fence)
+/// The words in lines so wide: the first starts with `first`, the others with as many blanks.
+pub fn wrapped(first: &str, text: &str, width: usize) -> Vec<String> {
+    let mut words = text.split(' ');
+    let mut lines = vec![format!("{first}{}", words.next().unwrap_or_default())];
+    for word in words {
+        let last = lines.last_mut().expect("the first one");
+        if last.chars().count() + 1 + word.chars().count() <= width {
+            *last += &format!(" {word}");
+        } else {
+            lines.push(" ".repeat(first.len()) + word);
+        }
+    }
+    lines
 }
 
 /// What wraps, if anything does.
@@ -95,7 +87,7 @@ pub fn gaps(source: &Source, decided: &Decided) -> Option<String> {
 }
 
 /// `line 3`, `lines 3 and 5`, `lines 3, 5 and 7`.
-fn lines(numbers: &[usize]) -> String {
+pub fn lines(numbers: &[usize]) -> String {
     let shown: Vec<String> = numbers.iter().map(usize::to_string).collect();
     match shown.split_last() {
         Some((last, [])) => format!("line {last}"),

@@ -6,7 +6,7 @@ use std::hint::black_box;
 use std::iter::successors;
 
 use answer::{steps_in, Report, Step};
-use program::place_size;
+use program::{place_size, read};
 
 use crate::check_indexed;
 
@@ -151,9 +151,9 @@ fn zeros<T: Copy + Default>(count: usize) -> Option<Vec<T>> {
     Some(vec![T::default(); count])
 }
 
-/// The size of a place of the program, by the two bytes that say how many threads and locations it has. What is no
-/// program gets any size: no place of it is written.
+/// The size of a place of the program, which has one location more where it has a fence. What is no program gets the
+/// size that its two bytes for threads and locations ask for: no place of it is written.
 fn place_size_of(program: &[u8]) -> usize {
-    let [threads, locations] = [2, 3].map(|at| program.get(at).map_or(0, |&byte| usize::from(byte)));
-    place_size(threads, locations)
+    let byte = |at: usize| program.get(at).map_or(0, |&byte| usize::from(byte));
+    read(program).map_or_else(|_| place_size(byte(2), byte(3)), |program| program.place_size())
 }

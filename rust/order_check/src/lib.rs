@@ -47,7 +47,8 @@ pub use program::place_size;
 /// Any bytes and any lengths will do, 0 too: what is no program is [refused](Report::Refused), and memory that does not
 /// suffice is [reported](Report::Full) [as such](Report::Short). The table has as many places as fit into it whole, at
 /// most 1,000,000,000; for a program of T threads and L locations a place has [`place_size`] bytes, at most 1,681. A
-/// trace of [`Step::BYTES`] bytes for each place is never too short.
+/// program with a fence, an op 11 in any of its lines, has one location more than its header names: the fences' own,
+/// which is the last. A trace of [`Step::BYTES`] bytes for each place is never too short.
 ///
 /// Each situation is compared with all before it, so that the time grows with the square of their number:
 /// [`check_indexed`] is for large tables.

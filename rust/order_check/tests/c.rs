@@ -31,13 +31,14 @@ fn run(source: &Path, name: &str) -> Output {
 }
 
 #[test]
-fn a_program_in_c_gets_the_answers_of_document_01() {
+fn a_program_in_c_gets_the_answers_of_the_documents() {
     let source = Path::new(env!("CARGO_MANIFEST_DIR")).join("tests/caller.c");
     let run = run(&source, "caller");
     let printed = String::from_utf8_lossy(&run.stdout);
     assert!(run.status.success(), "{printed}");
     let sb = "ST 1 W 0 1\nST 1 R 1 0\nST 2 W 1 1\n";
-    assert_eq!(printed, format!("{sb}ST 1 L 0 0\n{sb}"));
+    let fenced = "ST 1 W 0 1\nST 1 M 2 0\nST 1 R 1 0\nST 2 W 1 1\n";
+    assert_eq!(printed, format!("{sb}ST 1 L 0 0\n{sb}{fenced}"));
 }
 
 #[test]

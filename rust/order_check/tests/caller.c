@@ -1,4 +1,4 @@
-/* A program in C that calls the checker through its header, prints the steps of two runs, and ends with 0 where each
+/* A program in C that calls the checker through its header, prints the steps of three runs, and ends with 0 where each
    answer is the expected one. */
 #include <stdio.h>
 #include <string.h>
@@ -28,11 +28,40 @@ static const uint8_t local_sb[] = {
     'I', 'N', 6, 0, 0, 0, 0,
 };
 
+/* SB with a fence between the lines of thread 1: x := 1; fence; read y || y := 1; read x. */
+static const uint8_t half_fenced_sb[] = {
+    'P', 'R', 2, 2, 2,
+    'T', 'H', 3,
+    'I', 'N', 5, 0, 0, 1, 0,
+    'I', 'N', 11, 0, 0, 0, 0,
+    'I', 'N', 6, 0, 1, 0, 0,
+    'T', 'H', 2,
+    'I', 'N', 5, 0, 1, 1, 0,
+    'I', 'N', 6, 0, 0, 0, 0,
+};
+
+/* With one in each thread. */
+static const uint8_t fenced_sb[] = {
+    'P', 'R', 2, 2, 2,
+    'T', 'H', 3,
+    'I', 'N', 5, 0, 0, 1, 0,
+    'I', 'N', 11, 0, 0, 0, 0,
+    'I', 'N', 6, 0, 1, 0, 0,
+    'T', 'H', 3,
+    'I', 'N', 5, 0, 1, 1, 0,
+    'I', 'N', 11, 0, 0, 0, 0,
+    'I', 'N', 6, 0, 0, 0, 0,
+};
+
+/* A fence beside sixteen locations. */
+static const uint8_t no_room[] = {'P', 'R', 1, 16, 2, 'T', 'H', 1, 'I', 'N', 11, 0, 0, 0, 0};
+
 /* One thread without lines, and one location. */
 static const uint8_t empty_thread[] = {'P', 'R', 1, 1, 2, 'T', 'H', 0};
 
-/* Seven places of two threads and two locations have 455 bytes, and three steps have the bytes of a trace but one. */
-static uint8_t table[455];
+/* As many bytes as SB with fences needs, of which SB needs 455: seven places of two threads and two locations. Three
+   steps have the bytes of a trace but one. */
+static uint8_t table[26 * ORDER_FENCED_PLACE_SIZE(2, 2)];
 static uint8_t trace[3 * ORDER_STEP_BYTES + 1];
 static uint64_t slots[15];
 
@@ -124,12 +153,20 @@ int main(void)
     const uint64_t robust[] = {ORDER_RB, 0, 1, 0, 0, 0, 0, 0};
     const uint64_t no_place[] = {ORDER_FU, ORDER_TABLE_FULL, 0, 0, 0, 0, 0, 0};
     const uint64_t no_program[] = {ORDER_REFUSED, 1, 0, 0, 0, 0, 0, 0};
+    const uint64_t fenced[] = {ORDER_RB, 0, 26, 0, 0, 0, 0, 0};
+    const uint64_t fenced_full[] = {ORDER_FU, ORDER_TABLE_FULL, 25, 0, 0, 0, 0, 0};
+    const uint64_t no_fence[] = {ORDER_REFUSED, 12, 0, 0, 0, 0, 0, 0};
     const uint8_t steps[] = {1, ORDER_WRITE, 0, 1, 1, ORDER_READ, 1, 0, 2, ORDER_WRITE, 1, 1, 9};
     const uint8_t unchanged[] = {9, 9, 9, 9, 9, 9, 9, 9, 9, 9, 9, 9, 9};
 
     if (ORDER_PLACE_SIZE(1, 1) != 29 || ORDER_PLACE_SIZE(2, 1 + 1) != 65 || ORDER_PLACE_SIZE(8, 16) != 1681) {
         failures++;
         printf("ORDER_PLACE_SIZE is wrong\n");
+    }
+    if (ORDER_FENCED_PLACE_SIZE(1, 1) != 50 || ORDER_FENCED_PLACE_SIZE(2, 1 + 1) != 98 ||
+        ORDER_FENCED_PLACE_SIZE(8, 15) != ORDER_PLACE_SIZE(8, 16)) {
+        failures++;
+        printf("ORDER_FENCED_PLACE_SIZE is wrong\n");
     }
     expect("SB", sb, sizeof sb, 455, sizeof trace, not_robust);
     expect_trace("SB", steps);
@@ -139,8 +176,13 @@ int main(void)
     expect("an empty thread and nothing lent", empty_thread, sizeof empty_thread, 0, 0, no_place);
     expect("no bytes", sb, 0, 0, 0, no_program);
 
+    expect("SB with fences", fenced_sb, sizeof fenced_sb, sizeof table, 0, fenced);
+    expect("SB with fences in a shorter table", fenced_sb, sizeof fenced_sb, sizeof table - 1, 0, fenced_full);
+    expect("a fence beside sixteen locations", no_room, sizeof no_room, sizeof table, 0, no_fence);
+
     print_run(sb, sizeof sb);
     print_run(local_sb, sizeof local_sb);
+    print_run(half_fenced_sb, sizeof half_fenced_sb);
 
     /* A trace that is too short by a byte, then one of the length that is wanted, in bytes. */
     const uint64_t short_trace[] = {ORDER_REFUSED, ORDER_TRACE_SHORT, 0, 3 * ORDER_STEP_BYTES, 0, 0, 0, 0};

@@ -45,6 +45,39 @@ fn the_memory_grows_up_to_the_limit() {
     }
 }
 
+/// One thread of a fence after lines that are given by their fields, among so many locations.
+fn before_a_fence(locations: u8, lines: &[[u8; 5]]) -> Vec<u8> {
+    let mut bytes = [b"PR\x01".as_slice(), &[locations, 2], b"TH", &[lines.len() as u8 + 1]].concat();
+    for fields in lines.iter().chain([&[11, 0, 0, 0, 0]]) {
+        bytes.extend([b"IN".as_slice(), fields].concat());
+    }
+    bytes
+}
+
+#[test]
+fn a_place_counts_the_location_of_a_fence() {
+    // With its index a place of one thread and two locations has 66 bytes. The second fence is never reached.
+    for program in [before_a_fence(1, &[]), before_a_fence(1, &[[4, 0, 2, 1, 0]])] {
+        assert_eq!(Lent::within(&program, 2 * 66), Lent { table: 100, index: 32 });
+        assert_eq!(Lent::with_table(&program, 99), Lent { table: 99, index: 16 });
+        let lengths: Vec<usize> = tables(&program, 1_000_000).map(|lent| lent.table).collect();
+        assert_eq!(lengths, [49_152, 393_216, 757_550]);
+    }
+    // Without a fence, and where none is accepted, the two bytes of the header count.
+    assert_eq!(Lent::within(b"PR\x01\x01\x02TH\x00", 45), Lent { table: 29, index: 16 });
+    assert_eq!(Lent::within(&before_a_fence(16, &[]), 1_200), Lent { table: 1_184, index: 16 });
+}
+
+#[test]
+fn a_fence_is_checked_in_places_of_its_size() {
+    let program = before_a_fence(1, &[]);
+    let checked = check_growing(&program, 2 * 66).unwrap();
+    assert_eq!((checked.report, checked.lent.table), (Report::Robust { count: 2 }, 100));
+    assert_eq!(check_growing(&program, 2 * 66 - 1).unwrap().report, Report::Full { count: 1 });
+    let refused = check_growing(&before_a_fence(16, &[]), 1 << 30).unwrap();
+    assert_eq!((refused.report, refused.lent.table), (Report::Refused { number: 12 }, 49_152));
+}
+
 #[test]
 fn it_goes_on_until_a_table_decides() {
     // 16 to the power of four situations, in places of 62 bytes.

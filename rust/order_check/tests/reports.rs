@@ -1,4 +1,4 @@
-//! The cases of document 01 as a user of the crate gets them, with the lent lengths of document 02.
+//! The cases of the documents as a user of the crate gets them, with the lent lengths of document 02.
 #![forbid(unsafe_code)]
 
 use order_check::{check, check_indexed, steps_in, Access, Kind, Report, Step};
@@ -14,6 +14,11 @@ const SB_OF_UPDATES: &[u8] = b"PR\x02\x02\x02TH\x02IN\x05\x00\x00\x01\x00IN\x07\
 /// x := 1; y := 2 ‖ y := 1; x := 2; K = 3.
 const TWO_WRITES: &[u8] = b"PR\x02\x02\x03TH\x02IN\x05\x00\x00\x01\x00IN\x05\x00\x01\x02\x00\
     TH\x02IN\x05\x00\x01\x01\x00IN\x05\x00\x00\x02\x00";
+
+/// x := 1; fence; read y ‖ y := 1; read x; K = 2.
+const HALF_FENCED_SB: &[u8] = b"PR\x02\x02\x02\
+    TH\x03IN\x05\x00\x00\x01\x00IN\x0b\x00\x00\x00\x00IN\x06\x00\x01\x00\x00\
+    TH\x02IN\x05\x00\x01\x01\x00IN\x06\x00\x00\x00\x00";
 
 const EMPTY_THREAD: &[u8] = b"PR\x01\x01\x02TH\x00";
 
@@ -57,6 +62,33 @@ fn a_step_of_a_local_line_has_no_access() {
     assert!(matches!(report, Report::NotRobust { steps: 4, thread: 2, kind: Kind::Read, .. }), "{report:?}");
     assert_eq!(trace, [[1, 0, 0, 0].as_slice(), &STEPS_OF_SB].concat()[..]);
     assert_eq!(steps_in(&trace).unwrap()[0], Step { thread: 1, access: None });
+}
+
+#[test]
+fn a_fence_is_an_update_at_the_location_after_the_named_ones() {
+    // Eleven places of two threads and three locations, and four steps.
+    let (mut table, mut trace) = ([0; 11 * 98], [9; 17]);
+    let report = check(HALF_FENCED_SB, &mut table, &mut trace);
+    let stale = Report::NotRobust { count: 11, steps: 4, thread: 2, kind: Kind::Read, location: 0, value: 0 };
+    assert_eq!(report, stale);
+    assert_eq!(trace, [1, 2, 0, 1, 1, 3, 2, 0, 1, 1, 1, 0, 2, 2, 1, 1, 9]);
+    let fence = Access { kind: Kind::Update, location: 2, value: 0 };
+    assert_eq!(steps_in(&trace[..16]).unwrap()[1], Step { thread: 1, access: Some(fence) });
+    let (mut table, mut trace) = ([0; 11 * 98 - 1], [9; 17]);
+    assert_eq!(check(HALF_FENCED_SB, &mut table, &mut trace), Report::Full { count: 10 });
+    assert_eq!(trace, [9; 17]);
+}
+
+#[test]
+fn a_fence_beside_sixteen_locations_is_refused_and_changes_nothing() {
+    // The header's L is the fourth byte.
+    let (mut table, mut trace, mut index) = ([7; SEVEN], [9; THREE], [5; 14]);
+    let mut program = HALF_FENCED_SB.to_vec();
+    program[3] = 16;
+    assert_eq!(check(&program, &mut table, &mut trace), Report::Refused { number: 12 });
+    let refused = check_indexed(&program, &mut table, &mut trace, &mut index);
+    assert_eq!(refused, Report::Refused { number: 12 });
+    assert_eq!((table, trace, index), ([7; SEVEN], [9; THREE], [5; 14]));
 }
 
 #[test]

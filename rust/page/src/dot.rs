@@ -7,7 +7,7 @@ use models::Source;
 use crate::drawn::Drawn;
 use crate::own::NO_GRAPH;
 use crate::picture::{without_head, Picture, Point, Rect, Wire};
-use crate::relations::{look, Look};
+use crate::relations::Look;
 use crate::words::Words;
 use crate::Graph;
 
@@ -23,11 +23,12 @@ pub fn dot(source: &Source, graph: &Graph) -> String {
     let drawing = &picture.drawing;
     let nodes = |thread: Option<usize>| -> String {
         let events = drawing.events().filter(|&event| drawing.column(event) == thread);
-        events.map(|event| node(&drawing.words, event, &picture.boxes[event])).collect()
+        events.map(|event| node(&drawing.words, event, &picture.boxes[&event])).collect()
     };
     let cluster = |(thread, rect): (usize, &Rect)| cluster(thread + 1, rect, &nodes(Some(thread)));
     let clusters: String = picture.columns.iter().enumerate().map(cluster).collect();
-    let edges = drawing.edges.iter().zip(&picture.wires).map(|(drawn, wire)| edge(drawn, wire));
+    let edges =
+        drawing.edges.iter().zip(&picture.wires).map(|(drawn, wire)| edge(&drawing.words, drawn, wire));
     let edges: String = edges.collect();
     let all = attributes([("layout", "nop2"), ("fontname", SANS)].map(owned));
     let all_nodes = [("shape", "box"), ("fixedsize", "true"), ("fontname", "monospace"), ("fontsize", "11")];
@@ -74,9 +75,9 @@ fn node(words: &Words, event: usize, rect: &Rect) -> String {
     format!("    e{event} {look};\n")
 }
 
-fn edge(drawn: &Drawn, wire: &Wire) -> String {
-    let Edge { from, to, relation } = drawn.edge;
-    let Look { short, colours: [colour, _], style, head, .. } = *look(relation);
+fn edge(words: &Words, drawn: &Drawn, wire: &Wire) -> String {
+    let Edge { from, to, .. } = drawn.edge;
+    let Look { short, colours: [colour, _], style, head, .. } = *words.look(drawn.edge);
     // Graphviz has nothing behind a name to hide the line.
     let name = if drawn.is_next { wire.name } else { (wire.name.0 + BESIDE, wire.name.1) };
     let look = attributes([

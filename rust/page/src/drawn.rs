@@ -3,7 +3,7 @@
 use answer::Kind;
 use explain::{Edge, Execution, Relation};
 
-use crate::Graph;
+use crate::words::Words;
 
 /// An edge that is drawn.
 #[derive(Clone, Copy, Debug, PartialEq, Eq)]
@@ -17,16 +17,24 @@ pub struct Drawn {
 }
 
 /// The edges to the next event of each relation, and all of the cycle.
-pub fn drawn(graph: &Graph) -> Vec<Drawn> {
-    let Graph { execution, cycle } = graph;
+pub fn drawn(words: &Words, cycle: &[Edge]) -> Vec<Drawn> {
+    let execution = words.execution;
     let marked = |is_next| move |edge| Drawn { edge, in_cycle: cycle.contains(&edge), is_next };
     let mut all: Vec<Drawn> = next_in_thread(execution).into_iter().map(marked(true)).collect();
     let others = [reads(execution), changes(execution), overtaken(execution)].concat();
-    all.extend(others.into_iter().map(marked(false)));
+    let others = others.into_iter().filter(|&edge| !is_plain_order(words, edge));
+    all.extend(others.map(marked(false)));
     let is_new = |edge: &Edge| all.iter().all(|drawn| drawn.edge != *edge);
     let beyond: Vec<Edge> = cycle.iter().copied().filter(is_new).collect();
     all.extend(beyond.into_iter().map(marked(false)));
     all
+}
+
+/// Whether the edge says no more of fences than that each reads the one before it. The first one has nothing to read that
+/// is worth a box.
+fn is_plain_order(words: &Words, edge: Edge) -> bool {
+    let is_read = edge.relation == Relation::ReadsFrom;
+    words.is_fence(edge.from) && !(is_read && words.is_drawn(edge.from))
 }
 
 /// Program order: from each event to the next one of its thread.

@@ -58,7 +58,7 @@ impl Page<'_> {
     fn picture(&self, graph: &Graph) -> Element {
         let picture = svg(&Picture::of(self.source, graph));
         let picture = scrolling("The execution graph, to scroll", picture);
-        element("div").with("class", "picture").lines([legend(), picture])
+        element("div").with("class", "picture").lines([legend(self.source.program.has_fence()), picture])
     }
 
     fn steps(&self, graph: &Graph) -> Element {

@@ -1,19 +1,19 @@
 //! What the lines and boxes of the picture stand for.
 
 use crate::element::{element, Element};
-use crate::relations::{Look, LOOKS};
+use crate::relations::{look, Look, FENCE_ORDER, LOOKS};
 
-/// The legend as a list.
-pub fn legend() -> Element {
-    let relation = |Look { short, name, meaning, .. }: &Look| {
-        entry(line(&format!("edge {short}")), short, &format!(" {name}: {meaning}"))
+/// The legend as a list, for a model with fences or without.
+pub fn legend(has_fence: bool) -> Element {
+    let entry_of = |Look { relation, short, name, meaning, .. }: &Look| {
+        entry(line(&format!("edge {}", look(*relation).short)), short, &format!(" {name}: {meaning}"))
     };
     let others = [
         entry(line("edge po cycle"), "bold", ": the cycle, which no SC run has; it may leap over events"),
         entry(rect("event stale", 3), "dashed box", ": the stale access, by an older write"),
         entry(rect("event start", 9), "round box", ": the starting write of a location"),
     ];
-    let entries = LOOKS.iter().map(relation).chain(others);
+    let entries = LOOKS.iter().chain(has_fence.then_some(&FENCE_ORDER)).map(entry_of).chain(others);
     element("ul").with("class", "legend").with("aria-label", "Legend").lines(entries)
 }
 

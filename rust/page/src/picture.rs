@@ -15,7 +15,7 @@ mod svg;
 mod trunks;
 mod wires;
 
-use std::ops::Range;
+use std::collections::BTreeMap;
 
 use explain::Edge;
 use models::Source;
@@ -42,8 +42,8 @@ const MANY_ROWS: usize = 12;
 pub struct Picture<'a> {
     pub drawing: Drawing<'a>,
     pub cycle: &'a [Edge],
-    /// The box of each event.
-    pub boxes: Vec<Rect>,
+    /// The box of each event that is drawn.
+    pub boxes: BTreeMap<usize, Rect>,
     /// The way of each edge that is drawn.
     pub wires: Vec<Wire>,
     /// The column of each thread, with room for its heading.
@@ -56,7 +56,8 @@ pub struct Picture<'a> {
 
 impl<'a> Picture<'a> {
     pub fn of(source: &'a Source, graph: &Graph<'a>) -> Picture<'a> {
-        let drawing = Drawing { words: Words { source, execution: graph.execution }, edges: drawn(graph) };
+        let words = Words { source, execution: graph.execution };
+        let drawing = Drawing { words, edges: drawn(&words, graph.cycle) };
         let (trunks, lanes) = trunks(&drawing);
         let frame = Frame::of(&drawing, &lanes);
         let ports = Ports::of(&drawing, &trunks);
@@ -64,8 +65,8 @@ impl<'a> Picture<'a> {
         let turns = wiring.turns();
         let boxes = boxes(&drawing, &frame, turns.height);
         let wires = wiring.wires(&boxes, &turns);
-        let is_long = drawing.events().len() - drawing.starts() > MANY_ROWS;
-        let bottom = boxes.iter().map(Rect::bottom).max().unwrap_or(0);
+        let is_long = boxes.len() - drawing.starts() > MANY_ROWS;
+        let bottom = boxes.values().map(Rect::bottom).max().unwrap_or(0);
         let height = bottom + if is_long { 3 * GAP } else { 3 * GAP / 2 };
         let columns = frame.columns(starts_end(&frame) + turns.height, height);
         Picture { cycle: graph.cycle, boxes, wires, columns, width: frame.width, height, is_long, drawing }
@@ -84,13 +85,14 @@ impl Drawing<'_> {
         self.words.source.statements.len()
     }
 
-    /// How many starting writes there are, which are the first events.
+    /// How many starting writes are drawn, which are the first events.
     pub fn starts(&self) -> usize {
-        self.words.execution.orders.len()
+        self.words.source.locations.len()
     }
 
-    pub fn events(&self) -> Range<usize> {
-        0..self.words.execution.events.len()
+    /// The events that are drawn.
+    pub fn events(&self) -> impl Iterator<Item = usize> + '_ {
+        (0..self.words.execution.events.len()).filter(|&event| self.words.is_drawn(event))
     }
 
     /// The column of an event; none for a starting write.
@@ -100,6 +102,6 @@ impl Drawing<'_> {
 
     /// The row of an event, from 1; 0 is that of the starting writes.
     fn row(&self, event: usize) -> usize {
-        (event + 1).saturating_sub(self.starts())
+        (event + 1).saturating_sub(self.words.execution.orders.len())
     }
 }

@@ -23,6 +23,17 @@ pub struct Look {
     pub head: &'static str,
 }
 
+const READS_FROM: Look = Look {
+    relation: Relation::ReadsFrom,
+    short: "rf",
+    name: "reads-from",
+    meaning: "from a write to its readers",
+    colours: ["#c8001e", "#ff7a7a"],
+    dashes: "9 3",
+    style: "dashed",
+    head: "normal",
+};
+
 /// The relations in the order of the legend.
 pub const LOOKS: [Look; 4] = [
     Look {
@@ -35,16 +46,7 @@ pub const LOOKS: [Look; 4] = [
         style: "solid",
         head: "normal",
     },
-    Look {
-        relation: Relation::ReadsFrom,
-        short: "rf",
-        name: "reads-from",
-        meaning: "from a write to its readers",
-        colours: ["#c8001e", "#ff7a7a"],
-        dashes: "9 3",
-        style: "dashed",
-        head: "normal",
-    },
+    READS_FROM,
     Look {
         relation: Relation::ModificationOrder,
         short: "mo",
@@ -66,6 +68,11 @@ pub const LOOKS: [Look; 4] = [
         head: "empty",
     },
 ];
+
+/// How fences are shown that come one after another. Each reads the one before it, so that their edges are drawn as
+/// those of reads-from.
+pub const FENCE_ORDER: Look =
+    Look { short: "fo", name: "fence order", meaning: "from a fence to a later one", ..READS_FROM };
 
 /// How the relation is shown.
 pub fn look(relation: Relation) -> &'static Look {

@@ -28,7 +28,7 @@ pub fn reason(source: &Source, report: &Report) -> String {
             situations(count)
         ),
         Report::NotRobust { steps, thread, kind, location, value, .. } => {
-            let name = source.locations.get(location).map_or("?", String::as_str);
+            let name = source.name(location).unwrap_or("?");
             let these = if steps == 1 { "this step".into() } else { format!("these {steps} steps") };
             format!("after {these} thread {thread} may {}.", stale(kind, name, value))
         }

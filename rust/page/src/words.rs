@@ -1,10 +1,10 @@
 //! What is said of events and edges, in the picture, in the table and for graphviz.
 
 use answer::Kind;
-use explain::{Edge, Event, Execution};
+use explain::{Edge, Event, Execution, Relation};
 use models::{Source, Statement};
 
-use crate::relations::look;
+use crate::relations::{look, Look, FENCE_ORDER};
 
 /// A graph with the names and the lines of its model.
 #[derive(Clone, Copy)]
@@ -23,16 +23,29 @@ impl<'a> Words<'a> {
         event == self.execution.stale()
     }
 
+    /// Whether it is a fence, or the starting write of their location.
+    pub fn is_fence(&self, event: usize) -> bool {
+        self.source.is_fence(self.event(event).location)
+    }
+
+    /// Whether it has a box: all but the starting write of the fences, which no text shows and no cycle has in it.
+    pub fn is_drawn(&self, event: usize) -> bool {
+        self.event(event).step.is_some() || !self.is_fence(event)
+    }
+
     /// The line of a step as it is written; a step is a place in the list of them.
     pub fn statement(&self, step: usize) -> &'a Statement {
         let taken = &self.execution.steps[step];
         &self.source.statements[taken.thread][taken.line]
     }
 
-    /// `R x = 0`, `W x = 1`, `M x: 0 → 1`
+    /// `R x = 0`, `W x = 1`, `M x: 0 → 1`, `fence`
     pub fn access(&self, event: usize) -> String {
         let Event { kind, location, read, written, .. } = *self.event(event);
-        let name = &self.source.locations[location];
+        let name = self.source.name(location).expect("a run has no other locations than its model");
+        if self.is_fence(event) {
+            return name.into();
+        }
         let [read, written] = [read, written].map(Option::unwrap_or_default);
         match kind {
             Kind::Read => format!("R {name} = {read}"),
@@ -76,10 +89,19 @@ impl<'a> Words<'a> {
         }
     }
 
+    /// How an edge is shown.
+    pub fn look(&self, Edge { from, relation, .. }: Edge) -> &'static Look {
+        if relation != Relation::ProgramOrder && self.is_fence(from) {
+            &FENCE_ORDER
+        } else {
+            look(relation)
+        }
+    }
+
     /// An edge in words.
     pub fn of_edge(&self, edge: Edge, in_cycle: bool) -> String {
         let [from, to] = [edge.from, edge.to].map(|event| self.named(event));
         let cycle = if in_cycle { ", in the cycle" } else { "" };
-        format!("{}{cycle}: from {from} to {to}", look(edge.relation).name)
+        format!("{}{cycle}: from {from} to {to}", self.look(edge).name)
     }
 }

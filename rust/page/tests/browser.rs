@@ -85,29 +85,31 @@ fn between<'a>(text: &'a str, start: &str, end: &str) -> Option<&'a str> {
     Some(text.split_once(start)?.1.split_once(end)?.0)
 }
 
-/// The page has its verdict and a box for each event, and nothing is on the console.
+/// The page has its verdict and a box for each event that is drawn, and nothing is on the console.
 fn is_shown(browser: &Path, reported: &Reported) {
-    let Reported { name, source, report, execution, .. } = reported;
+    let Reported { name, source, report, .. } = reported;
     let Seen { dom, console } = open(browser, name, &reported.html("In words.\n"));
     assert_eq!(console, Vec::<String>::new(), "{name}");
     let verdict = between(&dom, "<p id=\"verdict\">", "</p>").unwrap_or_else(|| panic!("{name}: {dom}"));
     let shown = verdict.replace("<strong>", "").replace("</strong>", "");
     assert_eq!(shown, page::verdict(source, report), "{name}");
-    let events = execution.as_ref().map_or(0, |execution| execution.events.len());
-    for event in 0..events {
+    let events = reported.events_drawn();
+    for event in &events {
         let start = format!("id=\"event-{event}\">");
         let drawn = between(&dom, &start, "</g>").unwrap_or_else(|| panic!("{name}: no box {event}"));
         for part in ["<title>", "<rect ", "class=\"access\"", "class=\"origin\""] {
             assert_eq!(drawn.matches(part).count(), 1, "{name}: {drawn}");
         }
     }
-    assert_eq!(dom.matches("id=\"event-").count(), events, "{name}");
+    assert_eq!(dom.matches("id=\"event-").count(), events.len(), "{name}");
 }
 
 #[test]
 fn a_browser_shows_verdict_and_events_without_a_word_on_its_console() {
     let Some(browser) = browser() else { return };
-    for name in ["sb", "2+2w", "peterson-sc", "iriw", "long-run", "crowd", "page-ring-sc", "sixteen"] {
+    for name in
+        ["sb", "2+2w", "peterson-sc", "iriw", "long-run", "crowd", "page-ring-sc", "sixteen", "fences"]
+    {
         is_shown(&browser, named(&format!("{name}.order")));
     }
     is_shown(&browser, models().iter().find(|model| model.execution.is_none()).unwrap());

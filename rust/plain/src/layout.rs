@@ -1,6 +1,6 @@
 //! Where the parts of a place stand: docs/LAYOUT.md.
 
-use program::{place_size, Program};
+use program::Program;
 
 /// The thread, after the place it was reached from.
 pub const BY: usize = 4;
@@ -33,6 +33,7 @@ pub fn put(place: &mut [u8], at: usize, set: u16) {
 /// of known locations, and the rows of threads and of newest writes.
 pub struct Layout {
     pub threads: usize,
+    /// The named ones and, where the program has a fence, its own.
     pub locations: usize,
     pub registers: usize,
     pub values: usize,
@@ -49,7 +50,7 @@ pub struct Layout {
 
 impl Layout {
     pub fn of(program: &Program) -> Layout {
-        let (threads, locations) = (program.threads.len(), usize::from(program.locations));
+        let (threads, locations) = (program.threads.len(), usize::from(program.all_locations()));
         let row = SET * locations;
         let registers = LINES + threads;
         let values = registers + REGISTERS * threads;
@@ -72,7 +73,7 @@ impl Layout {
             readable_by_newest,
             writable_by_thread,
             writable_by_newest,
-            size: place_size(threads, locations),
+            size: program.place_size(),
         }
     }
 
@@ -98,16 +99,27 @@ impl Layout {
 #[cfg(test)]
 mod tests {
     use super::Layout;
-    use program::Program;
+    use program::{Line, Program};
 
     #[test]
     fn the_last_row_ends_the_place() {
         for threads in 1..=8 {
             for locations in 1..=16 {
-                let layout =
-                    Layout::of(&Program { threads: vec![Vec::new(); threads], locations, values: 2 });
+                let empty = Program { threads: vec![Vec::new(); threads], locations, values: 2 };
+                let layout = Layout::of(&empty);
                 assert_eq!(layout.writable_by_newest + layout.row() * layout.locations, layout.size);
             }
+        }
+    }
+
+    #[test]
+    fn a_fence_has_the_room_of_one_location_more() {
+        for locations in 1..=15 {
+            let with = |locations, lines| Program { threads: vec![lines], locations, values: 2 };
+            let fenced = Layout::of(&with(locations, vec![Line::Fence]));
+            let more = Layout::of(&with(locations + 1, Vec::new()));
+            assert_eq!((fenced.locations, fenced.size), (more.locations, more.size));
+            assert_eq!(fenced.writable_by_newest, more.writable_by_newest);
         }
     }
 }

@@ -52,6 +52,7 @@ impl Places<'_> {
             Line::Fadd { location, .. } | Line::Cas { location, .. } | Line::Bcas { location, .. } => {
                 (Kind::Update, location)
             }
+            Line::Fence => (Kind::Update, self.stepper.fence()),
         };
         // What is written is there after the step, and what is read still is.
         Some(Access { kind, location, value: self.stepper.value(self.place(to), location) })

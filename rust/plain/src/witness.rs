@@ -63,6 +63,7 @@ impl Stepper<'_> {
             Line::Cas { location, a, .. } => (location, !alone(a), alone(a), Kind::Update),
             Line::Wait { location, a } => (location, alone(a), NONE, Kind::Read),
             Line::Bcas { location, a, .. } => (location, NONE, alone(a), Kind::Update),
+            Line::Fence => (self.fence(), NONE, EVERY, Kind::Update),
         };
         Some(Allowed { location, read, follow, kind })
     }

@@ -4,7 +4,7 @@
 use answer::Report;
 use models::collection;
 use plain::{check, turns};
-use program::{place_size, read, Line, Program};
+use program::{read, Line, Program};
 
 /// A model with its table, which has 961 places.
 struct Searched {
@@ -17,7 +17,7 @@ impl Searched {
     fn new() -> Searched {
         let bytes = collection::named("ticketlock").unwrap().bytes;
         let program = read(&bytes).unwrap();
-        let size = place_size(program.threads.len(), program.locations.into());
+        let size = program.place_size();
         let mut table = vec![0; 961 * size];
         assert_eq!(check(&bytes, &mut table, &mut []), Report::Robust { count: 961 });
         Searched { program, size, table }

@@ -28,6 +28,7 @@ pub fn fields(line: &Line) -> [u8; 5] {
         Line::Cas { reg, location, a, b } => [8, reg, location, byte(a), byte(b)],
         Line::Wait { location, a } => [9, 0, location, byte(a), 0],
         Line::Bcas { location, a, b } => [10, 0, location, byte(a), byte(b)],
+        Line::Fence => [11, 0, 0, 0, 0],
     }
 }
 

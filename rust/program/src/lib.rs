@@ -1,5 +1,5 @@
 //! The words of the documents that all crates share: programs as data and as bytes, their limits, and the sizes of their
-//! places. The reader was written from document 01 alone, apart from the proved one that it is compared with.
+//! places. The reader was written from the documents alone, apart from the proved one that it is compared with.
 #![forbid(unsafe_code)]
 
 mod checks;

@@ -1,4 +1,4 @@
-//! The limits of document 01, section "Program bytes", and document 02, Point 3, each in one place.
+//! The limits of document 01, section "Program bytes", and document 02, Points 3 and 5, each in one place.
 
 use std::ops::RangeInclusive;
 
@@ -7,6 +7,9 @@ pub const THREADS: RangeInclusive<u8> = 1..=8;
 
 /// L: "L may be 1 to 16" (document 02, Point 3).
 pub const LOCATIONS: RangeInclusive<u8> = 1..=16;
+
+/// L of a program with a fence: "12 when op 11 stands in a program whose L is 16" (document 02, Point 5).
+pub const LOCATIONS_BESIDE_A_FENCE: RangeInclusive<u8> = 1..=15;
 
 /// K: "values 0 to K−1 with K from 2 to 16".
 pub const VALUES: RangeInclusive<u8> = 2..=16;

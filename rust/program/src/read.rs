@@ -1,9 +1,10 @@
-//! The reader: document 01, section "Checks, in this order, the first failure wins", checks 1 to 9.
+//! The reader: document 01, section "Checks, in this order, the first failure wins", checks 1 to 9,
+//! and document 02, Point 5, check 12.
 
 use crate::data::{Line, Operand, Program};
-use crate::limits::{LINES, LOCATIONS, REGISTERS, THREADS, VALUES};
+use crate::limits::{LINES, LOCATIONS, LOCATIONS_BESIDE_A_FENCE, REGISTERS, THREADS, VALUES};
 
-/// The program that the bytes spell, or the number 1 to 9 of the first check that fails.
+/// The program that the bytes spell, or the number, 1 to 9 or 12, of the first check that fails.
 pub fn read(bytes: &[u8]) -> Result<Program, u8> {
     let mut rest = bytes;
     // Check 1: "Does the input hold a whole PR record at its start?"
@@ -31,15 +32,18 @@ fn thread(rest: &mut &[u8], l: u8, k: u8) -> Result<Vec<Line>, u8> {
         .collect()
 }
 
-/// Checks 5 to 8 of one line, in a thread of n lines.
+/// Checks 5, 12, 6, 7 and 8 of one line, in a thread of n lines.
 fn line([op, reg, target, a, b]: [u8; 5], n: u8, l: u8, k: u8) -> Result<Line, u8> {
-    // Check 5: "Is op 1 to 10?"
+    // Check 5 "accepts 1 to 11".
     let uses = fields_used(op).ok_or(5)?;
+    // Check 12: "12 when op 11 stands in a program whose L is 16, asked directly after check 5."
+    check(12, op != FENCE || LOCATIONS_BESIDE_A_FENCE.contains(&l))?;
     // Check 6: "Is a used reg 0 to 3, and is every unused field 0?" An unused reg is 0, so below 4 as well.
     let unused_are_0 =
         (uses.reg || reg == 0) && (uses.target || target == 0) && (uses.a || a == 0) && (uses.b || b == 0);
     check(6, reg < REGISTERS && unused_are_0)?;
-    // Check 7: "Is a used target in range?" An unused one is 0, which is a location.
+    // Check 7: "Is a used target in range?" An unused one is 0, which is a location. L is the header's, so that no line
+    // names the location that a fence makes.
     let last = if op == JUMP { n } else { l - 1 };
     check(7, target <= last)?;
     // Check 8: "Is each used operand in range?" An unused one is 0, which is a constant.
@@ -58,12 +62,16 @@ fn line([op, reg, target, a, b]: [u8; 5], n: u8, l: u8, k: u8) -> Result<Line, u
         8 => Line::Cas { reg, location, a, b },
         9 => Line::Wait { location, a },
         10 => Line::Bcas { location, a, b },
-        _ => unreachable!("check 5 lets only 1 to 10 through"),
+        FENCE => Line::Fence,
+        _ => unreachable!("check 5 lets only 1 to 11 through"),
     })
 }
 
 /// "for op 4 a line 0 to n": the op whose target is no location.
 const JUMP: u8 = 4;
+
+/// "Op 11 uses no field and changes no register": the full fence.
+const FENCE: u8 = 11;
 
 /// Which of the fields a line uses.
 struct Uses {
@@ -83,6 +91,7 @@ fn fields_used(op: u8) -> Option<Uses> {
         8 => (true, true, true, true),
         9 => (false, true, true, false),
         10 => (false, true, true, true),
+        FENCE => (false, false, false, false),
         _ => return None,
     };
     Some(Uses { reg, target, a, b })

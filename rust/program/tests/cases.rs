@@ -1,4 +1,4 @@
-//! The cases of document 01 that its reader decides, byte by byte.
+//! The cases of the documents that the reader decides, byte by byte.
 #![forbid(unsafe_code)]
 
 use program::Operand::{Constant, Register};
@@ -72,6 +72,7 @@ fn every_op_is_read_with_its_fields() {
         ([8, 2, 1, 131, 4], Line::Cas { reg: 2, location: 1, a, b }),
         ([9, 0, 1, 131, 0], Line::Wait { location: 1, a }),
         ([10, 0, 1, 131, 4], Line::Bcas { location: 1, a, b }),
+        ([11, 0, 0, 0, 0], Line::Fence),
     ];
     for (fields, line) in expected {
         let bytes = [b"PR\x01\x02\x05TH\x01IN".as_slice(), &fields].concat();

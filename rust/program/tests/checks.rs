@@ -1,4 +1,4 @@
-//! Checks 1 to 9 of document 01, each at its limits, and which of two failures wins.
+//! Checks 1 to 9 of document 01 and 12 of document 02, each at its limits, and which of two failures wins.
 #![forbid(unsafe_code)]
 
 use program::read;
@@ -14,7 +14,7 @@ fn line(fields: [u8; 5]) -> Vec<u8> {
 }
 
 /// Every op with its used fields at their least, and 1 for reg, target, A and B where the field is used.
-const OPS: [([u8; 5], [u8; 4]); 10] = [
+const OPS: [([u8; 5], [u8; 4]); 11] = [
     ([1, 0, 0, 0, 0], [1, 0, 1, 1]),
     ([2, 0, 0, 0, 0], [1, 0, 1, 1]),
     ([3, 0, 0, 0, 0], [1, 0, 1, 1]),
@@ -25,6 +25,7 @@ const OPS: [([u8; 5], [u8; 4]); 10] = [
     ([8, 0, 0, 0, 0], [1, 1, 1, 1]),
     ([9, 0, 0, 0, 0], [0, 1, 1, 0]),
     ([10, 0, 0, 0, 0], [0, 1, 1, 1]),
+    ([11, 0, 0, 0, 0], [0, 0, 0, 0]),
 ];
 
 /// What the answer is when a used field has this value, by the place of the field.
@@ -109,12 +110,12 @@ fn check_4_allows_64_lines() {
 }
 
 #[test]
-fn check_5_allows_ops_1_to_10() {
+fn check_5_allows_ops_1_to_11() {
     for op in 0..=255 {
-        let expected = if (1..=10).contains(&op) { 0 } else { 5 };
+        let expected = if (1..=11).contains(&op) { 0 } else { 5 };
         assert_eq!(answer(&line([op, 0, 0, 0, 0])), expected, "op {op}");
     }
-    assert_eq!(answer(&line([11, 9, 9, 99, 99])), 5);
+    assert_eq!(answer(&line([12, 9, 9, 99, 99])), 5);
 }
 
 #[test]

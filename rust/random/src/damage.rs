@@ -2,10 +2,10 @@
 
 use crate::Numbers;
 
-/// Bytes at which a field of document 01 turns from good to bad, and the letters of its marks.
+/// Bytes at which a field of a program turns from good to bad, and the letters of the marks.
 const TELLING: &[u8] = &[
-    0, 1, 2, 3, 4, 7, 8, 9, 10, 11, 15, 16, 17, 63, 64, 65, 127, 128, 131, 132, 255, b'P', b'R', b'T', b'H',
-    b'I', b'N',
+    0, 1, 2, 3, 4, 7, 8, 9, 10, 11, 12, 15, 16, 17, 63, 64, 65, 127, 128, 131, 132, 255, b'P', b'R', b'T',
+    b'H', b'I', b'N',
 ];
 
 /// Damages the bytes, mostly in one place. Of two faults a reader must find the first.

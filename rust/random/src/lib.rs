@@ -7,4 +7,4 @@ mod programs;
 
 pub use damage::{damage, noise};
 pub use numbers::Numbers;
-pub use programs::{program, scattered, Shape};
+pub use programs::{program, scattered, spelled_out, with_fences, Shape};

@@ -2,7 +2,7 @@
 
 use std::ops::RangeInclusive;
 
-use program::limits::{LINES, LOCATIONS, REGISTERS, THREADS, VALUES};
+use program::limits::{LINES, LOCATIONS, LOCATIONS_BESIDE_A_FENCE, REGISTERS, THREADS, VALUES};
 use program::{Line, Operand, Program};
 
 use crate::Numbers;
@@ -11,7 +11,7 @@ use crate::Numbers;
 pub struct Shape {
     /// The number of threads.
     pub threads: RangeInclusive<u8>,
-    /// The number of locations.
+    /// The number of named locations.
     pub locations: RangeInclusive<u8>,
     /// The number of values.
     pub values: RangeInclusive<u8>,
@@ -22,16 +22,19 @@ pub struct Shape {
 }
 
 /// Each op as often as any other.
-const ALL: &[u8] = &[1, 2, 3, 4, 5, 6, 7, 8, 9, 10];
+const ALL: &[u8] = &[1, 2, 3, 4, 5, 6, 7, 8, 9, 10, 11];
 
 /// Accesses that always have a step, mostly plain ones.
-const ACCESSES: &[u8] = &[5, 5, 5, 5, 6, 6, 6, 6, 7, 8];
+const ACCESSES: &[u8] = &[5, 5, 5, 5, 5, 5, 5, 5, 6, 6, 6, 6, 6, 6, 6, 6, 7, 7, 8, 8, 11];
 
 /// Every op that always has a step: none waits.
-const STEADY: &[u8] = &[1, 2, 3, 4, 5, 5, 6, 6, 7, 8, 8];
+const STEADY: &[u8] = &[1, 1, 2, 2, 3, 3, 4, 4, 5, 5, 5, 5, 6, 6, 6, 6, 7, 7, 8, 8, 8, 8, 11];
 
 /// Plain reads and writes more often than the rest.
-const RACES: &[u8] = &[1, 2, 3, 4, 5, 5, 5, 5, 6, 6, 6, 6, 7, 7, 8, 8, 9, 10];
+const RACES: &[u8] = &[1, 2, 3, 4, 5, 5, 5, 5, 6, 6, 6, 6, 7, 7, 8, 8, 9, 10, 11];
+
+/// Plain accesses with fences between them.
+const FENCED: &[u8] = &[4, 5, 5, 5, 5, 5, 6, 6, 6, 6, 6, 7, 11, 11];
 
 impl Shape {
     /// Up to the limits: every accepted program can come out.
@@ -74,13 +77,19 @@ impl Shape {
         Shape { threads: 4..=*THREADS.end(), locations: 2..=2, values: 2..=3, lines: 1..=2, ops: RACES }
     }
 
-    /// One of the last five, for comparing searches: mostly of two to four threads.
+    /// Threads of accesses with fences between them, some of which no run reaches.
+    pub fn fenced() -> Shape {
+        Shape { threads: 2..=3, locations: 2..=2, values: 2..=3, lines: 3..=5, ops: FENCED }
+    }
+
+    /// One of the last six, for comparing searches: mostly of two to four threads.
     pub fn mixed(numbers: &mut Numbers) -> Shape {
-        match numbers.below(10) {
+        match numbers.below(12) {
             0..=2 => Shape::litmus(),
             3..=5 => Shape::racing(),
             6..=7 => Shape::looping(),
-            8 => Shape::wide(),
+            8..=9 => Shape::fenced(),
+            10 => Shape::wide(),
             _ => Shape::crowded(),
         }
     }
@@ -101,13 +110,39 @@ pub fn program(numbers: &mut Numbers, shape: &Shape) -> Program {
 
 /// The program among more than eight locations, of which a set takes two bytes, with those of its lines at any of them.
 pub fn scattered(numbers: &mut Numbers, program: Program) -> Program {
-    let locations = numbers.within(&(9.max(program.locations)..=*LOCATIONS.end()));
+    let locations = numbers.within(&(9.max(program.locations)..=program.most_locations()));
     let mut places: Vec<u8> = (0..locations).collect();
     for location in 0..usize::from(program.locations) {
         let place = location + numbers.below(places.len() - location);
         places.swap(location, place);
     }
     program.moved(locations, |location| places[usize::from(location)])
+}
+
+/// The program with a fence in place of each line once in four times, and at least of one where it has lines. Beside
+/// sixteen locations the reader refuses it by check 12.
+pub fn with_fences(numbers: &mut Numbers, mut program: Program) -> Program {
+    let lines = program.threads.iter().map(Vec::len).sum();
+    if lines > 0 {
+        let sure = numbers.below(lines);
+        for (place, line) in program.threads.iter_mut().flatten().enumerate() {
+            if place == sure || numbers.once_in(4) {
+                *line = Line::Fence;
+            }
+        }
+    }
+    program
+}
+
+/// The program with a blocking CAS from 0 to 0 in place of each fence, on one named location more, which only these
+/// use: so it holds 0, and what is added is 0.
+pub fn spelled_out(program: &Program) -> Program {
+    let mut spelled = Program { locations: program.locations + 1, ..program.clone() };
+    let zero = Operand::Constant(0);
+    for line in spelled.threads.iter_mut().flatten().filter(|line| **line == Line::Fence) {
+        *line = Line::Bcas { location: program.locations, a: zero, b: zero };
+    }
+    spelled
 }
 
 /// A line of a thread of n lines.
@@ -128,6 +163,9 @@ fn line(numbers: &mut Numbers, ops: &[u8], n: u8, locations: u8, values: u8) -> 
         8 => Line::Cas { reg, location, a, b },
         9 => Line::Wait { location, a },
         10 => Line::Bcas { location, a, b },
+        11 if LOCATIONS_BESIDE_A_FENCE.contains(&locations) => Line::Fence,
+        // Where a fence has no location, the same at a named one.
+        11 => Line::Fadd { reg, location, a: Operand::Constant(0) },
         op => panic!("{op} is no op"),
     }
 }

@@ -5,8 +5,8 @@ use std::collections::HashSet;
 use std::mem::discriminant;
 
 use program::limits::{LINES, LOCATIONS, REGISTERS, THREADS, VALUES};
-use program::{Line, Operand, Program};
-use random::{damage, noise, program, scattered, Numbers, Shape};
+use program::{encode, read, Line, Operand, Program};
+use random::{damage, noise, program, scattered, with_fences, Numbers, Shape};
 
 fn programs(seed: u64, count: usize, shape: &Shape) -> Vec<Program> {
     let mut numbers = Numbers::new(seed);
@@ -53,7 +53,7 @@ fn programs_use_every_op_register_and_the_end_of_a_thread() {
     let programs = programs(5, 200, &Shape::any());
     let lines: Vec<Line> = programs.iter().flat_map(|p| &p.threads).flatten().copied().collect();
     let kinds: HashSet<_> = lines.iter().map(discriminant).collect();
-    assert_eq!(kinds.len(), 10);
+    assert_eq!(kinds.len(), 11);
     for register in 0..REGISTERS {
         let operand = Operand::Register(register);
         assert!(lines.iter().any(|line| matches!(line, Line::Write { a, .. } if *a == operand)));
@@ -82,7 +82,7 @@ fn scattered_programs_use_as_many_of_more_locations() {
         let lines = program.threads.iter().flatten();
         lines.filter_map(|line| line.location()).collect::<Vec<_>>()
     };
-    let mut met = HashSet::new();
+    let (mut met, mut fenced) = (HashSet::new(), 0);
     for shape in [Shape::litmus(), Shape::wide()] {
         for _ in 0..500 {
             let drawn = program(&mut numbers, &shape);
@@ -93,11 +93,58 @@ fn scattered_programs_use_as_many_of_more_locations() {
                 [pairs.iter().map(|pair| pair.0).collect(), pairs.iter().map(|pair| pair.1).collect()];
             assert_eq!((from.len(), to.len()), (pairs.len(), pairs.len()), "{pairs:?}");
             assert!(to.iter().all(|&location| location < moved.locations));
+            assert!(moved.all_locations() <= 16);
+            fenced += usize::from(moved.has_fence());
             met.extend(pairs);
         }
     }
+    assert!((200..800).contains(&fenced), "{fenced} of 1000 have a fence");
     // Each of the first two goes to each of the sixteen.
     assert!((0..2).all(|from| (0..16).all(|to| met.contains(&(from, to)))), "{met:?}");
+}
+
+#[test]
+fn drawn_programs_are_accepted_and_a_fair_share_of_them_has_fences() {
+    for (what, shape) in [
+        ("litmus", Shape::litmus()),
+        ("racing", Shape::racing()),
+        ("winding", Shape::winding()),
+        ("looping", Shape::looping()),
+        ("wide", Shape::wide()),
+        ("crowded", Shape::crowded()),
+        ("small", Shape::small()),
+    ] {
+        let programs = programs(10, 500, &shape);
+        assert!(programs.iter().all(|program| read(&encode(program)).as_ref() == Ok(program)), "{what}");
+        let fenced = programs.iter().filter(|program| program.has_fence()).count();
+        assert!((100..=400).contains(&fenced), "{fenced} of 500 {what} programs have a fence");
+    }
+    for (locations, shape) in [(15, Shape { locations: 15..=15, ..Shape::any() }), (16, Shape::any())] {
+        let drawn = programs(11, 500, &shape).into_iter().filter(|program| program.locations == locations);
+        let drawn: Vec<Program> = drawn.collect();
+        assert!(drawn.len() >= 50 && drawn.iter().all(|program| read(&encode(program)).is_ok()));
+        let fenced = drawn.iter().filter(|program| program.has_fence()).count();
+        assert_eq!(fenced > 0, locations == 15, "{fenced} fences beside {locations} locations");
+    }
+}
+
+#[test]
+fn with_fences_a_program_of_sixteen_locations_is_refused() {
+    let mut numbers = Numbers::new(12);
+    let (mut fifteen, mut sixteen) = (0, 0);
+    for drawn in programs(13, 1000, &Shape::any()) {
+        let fenced = with_fences(&mut numbers, drawn.clone());
+        let has_lines = drawn.threads.iter().any(|lines| !lines.is_empty());
+        assert_eq!(fenced.has_fence(), has_lines);
+        assert_eq!((fenced.locations, fenced.threads.len()), (drawn.locations, drawn.threads.len()));
+        match read(&encode(&fenced)) {
+            Ok(accepted) => assert_eq!(accepted, fenced),
+            Err(number) => assert_eq!((number, fenced.locations), (12, 16)),
+        }
+        fifteen += usize::from(has_lines && fenced.locations == 15);
+        sixteen += usize::from(has_lines && fenced.locations == 16);
+    }
+    assert!(fifteen >= 20 && sixteen >= 20, "{fifteen} with 15 locations, {sixteen} with 16");
 }
 
 #[test]

@@ -24,6 +24,7 @@ impl Met {
 
     /// Notes how the search ended, and each step that led to a new situation.
     fn note_search(&mut self, program: &Program, search: &Search) {
+        self.note_fences(program, search);
         self.note(match search.ending {
             Ending::Whole => "RB",
             Ending::Full => "FU",
@@ -42,11 +43,29 @@ impl Met {
         }
     }
 
+    /// Notes whether there are fences, and whether the search takes one.
+    fn note_fences(&mut self, program: &Program, search: &Search) {
+        let fences = usize::from(program.locations);
+        let is_taken = search.places.iter().any(|place| place.access.is_some_and(|it| it.location == fences));
+        let what = match search.ending {
+            _ if !program.has_fence() => "no fence",
+            Ending::Whole if !is_taken => "RB with a fence that is never reached",
+            Ending::Whole => "RB with a fence",
+            Ending::Full => "FU with a fence",
+            Ending::Witness(witness) => {
+                assert!(witness.location < fences);
+                "NR with a fence"
+            }
+        };
+        self.note(what);
+    }
+
     /// Notes what the steps of a trace show.
     fn note_trace(&mut self, program: &Program, search: &Search) {
         let before = |place: &&Place| search.places.get(place.from.checked_sub(1)?);
         let way = std::iter::successors(search.places.last(), before);
         for place in way.filter(|place| place.from != 0) {
+            self.note_if(line_to(program, search, place) == Line::Fence, "a fence in a trace");
             self.note(match place.access.map(|access| access.kind) {
                 None => "L in a trace",
                 Some(Kind::Read) => "R in a trace",
@@ -95,7 +114,7 @@ impl Met {
             Line::Read { .. } => self.note("op 6"),
             Line::Fadd { a, .. } => {
                 self.note("op 7");
-                self.note_if(value(a) == 0, "a fence");
+                self.note_if(value(a) == 0, "a FADD of 0");
             }
             Line::Cas { location, a, .. } => {
                 self.note("op 8");
@@ -103,6 +122,7 @@ impl Met {
             }
             Line::Wait { .. } => self.note("op 9"),
             Line::Bcas { .. } => self.note("op 10"),
+            Line::Fence => self.note("op 11"),
         }
     }
 
@@ -136,23 +156,24 @@ fn searched(
     })
 }
 
-/// What is met in 600 programs.
+/// What is met in 1,000 programs.
 fn met(seed: u64, shape: impl Fn(&mut Numbers) -> Shape) -> Met {
     let mut met = Met::default();
-    for (program, search) in searched(seed, 600, shape) {
+    for (program, search) in searched(seed, 1_000, shape) {
         met.note_search(&program, &search);
         met.note_if((2..=4).contains(&program.threads.len()), "two to four threads");
     }
     met
 }
 
-const OPS: [&str; 10] = ["op 1", "op 2", "op 3", "op 4", "op 5", "op 6", "op 7", "op 8", "op 9", "op 10"];
+const OPS: [&str; 11] =
+    ["op 1", "op 2", "op 3", "op 4", "op 5", "op 6", "op 7", "op 8", "op 9", "op 10", "op 11"];
 
 const STEPS: [&str; 6] = [
     "a jump back",
     "a write of the value that is there",
     "a register written",
-    "a fence",
+    "a FADD of 0",
     "a CAS that succeeds",
     "a CAS that fails",
 ];
@@ -164,6 +185,16 @@ fn mixed_programs_meet_everything() {
     met.at_least(100, &OPS);
     met.at_least(100, &STEPS);
     met.at_least(5, &["RB", "FU", "NR by R", "NR by W", "NR by M"]);
+    met.at_least(50, &["no fence", "RB with a fence", "FU with a fence"]);
+    met.at_least(5, &["NR with a fence", "RB with a fence that is never reached"]);
+}
+
+#[test]
+fn fenced_programs_meet_fences_that_are_taken_and_others() {
+    let met = met(8, |_| Shape::fenced());
+    met.at_least(500, &["op 5", "op 6", "op 7", "op 11"]);
+    met.at_least(50, &["RB with a fence", "FU with a fence", "NR with a fence"]);
+    met.at_least(5, &["RB with a fence that is never reached", "no fence", "NR by R", "NR by W"]);
 }
 
 #[test]
@@ -214,5 +245,5 @@ fn traces_of_winding_programs_show_everything() {
     met.at_least(100, &["L in a trace", "R in a trace", "W in a trace", "M in a trace"]);
     met.at_least(100, &["a CAS that fails in a trace"]);
     met.at_least(20, &["a CAS with its own register in a trace", "a FADD of its own register in a trace"]);
-    met.at_least(20, &["a sum that wraps in a trace"]);
+    met.at_least(20, &["a sum that wraps in a trace", "a fence in a trace"]);
 }

@@ -69,7 +69,7 @@ impl Graph {
         self.events.len()
     }
 
-    /// L.
+    /// How many locations there are: L, and one more where the program has a fence.
     pub fn locations(&self) -> usize {
         self.orders.len()
     }

@@ -1,5 +1,5 @@
 //! The verdict and what is written: document 01, sections "Checks", "Table" and "The printing program", with the steps
-//! and the wanted length of document 02, Points 1 and 2.
+//! and the wanted length of document 02, Points 1 and 2, and the places of its Points 3 and 5.
 
 use std::fmt::{self, Display, Formatter};
 
@@ -22,7 +22,7 @@ pub enum Answer {
     Full { count: usize },
     /// 10, with the wanted length: "exactly the bytes the trace needs"
     ShortTrace { wanted: usize },
-    /// 1 to 9
+    /// 1 to 9, or 12
     Refused { number: u8 },
 }
 
@@ -45,7 +45,7 @@ pub fn check(bytes: &[u8], table: usize, trace: usize) -> Report {
     match read(bytes) {
         Err(number) => Report::refused(number),
         Ok(program) => {
-            let available = places_available(table, program.threads.len(), program.locations.into());
+            let available = places_available(table, program.threads.len(), program.all_locations().into());
             Search::new(&program, available).report(available, trace)
         }
     }

@@ -1,7 +1,8 @@
-//! Thread states, and what a thread's next line does: document 01, the op table and section "Graphs".
+//! Thread states, and what a thread's next line does: document 01, the op table and section "Graphs", and document 02,
+//! Point 5.
 
 use program::limits::REGISTERS;
-use program::{Line, Operand};
+use program::{Line, Operand, Program};
 
 /// "A thread state is a thread's line and registers."
 #[derive(Clone, Copy, Debug, PartialEq, Eq, Hash)]
@@ -79,8 +80,9 @@ impl Thread {
     /// "Every thread starts at line 0 with its registers 0".
     pub const START: Thread = Thread { line: 0, registers: [0; REGISTERS as usize] };
 
-    /// The next line of this thread; "a thread at its line n has none".
-    pub fn next(self, lines: &[Line], values: u8) -> Option<Next> {
+    /// The next line of this thread, which has these lines of the program; "a thread at its line n has none".
+    pub fn next(self, lines: &[Line], program: &Program) -> Option<Next> {
+        let values = program.values;
         let value = |operand| match operand {
             Operand::Constant(value) => value,
             Operand::Register(reg) => self.registers[usize::from(reg)],
@@ -106,6 +108,8 @@ impl Thread {
             Line::Bcas { location, a, b } => {
                 access(location, None, Wish::Bcas { from: value(a), to: value(b) })
             }
+            // "It is FADD of 0 on a location of its own, numbered after the L named ones", and "changes no register".
+            Line::Fence => access(program.locations, None, Wish::Fadd(0)),
         })
     }
 

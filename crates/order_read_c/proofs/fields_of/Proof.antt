@@ -17,7 +17,7 @@ fields-of-spec =
     (λ c κs. search needs) (λ c. search needs) (λ c κs. search needs) (λ c. search needs) (λ c κs. search needs)
     (λ c κs. search needs) (λ c. search needs) (λ c κs. search needs) (λ c κs. search needs) (λ c κs. search needs)
     (λ c. search needs) (λ c κs. search needs) (λ c κs. search needs) (λ c. search needs) (λ c κs. search needs)
-    (λ c κs. search needs) (λ c κs. search needs)
+    (λ c κs. search needs) (λ c κs. search needs) (λ c. search needs) (λ c κs. search needs)
     (λ c.
     let b = c .before in
     c .make-line .ensures ∙ rw
@@ -56,4 +56,6 @@ fields-of-spec =
     (λ c.
     let b = c .before in
     c .make-line10 .ensures ∙ rw
-    (b .before .before .before .line10 .given .1, b .before .operand-of13 .ensures, b .operand-of14 .ensures)))
+    (b .before .before .before .line10 .given .1, b .before .operand-of13 .ensures, b .operand-of14 .ensures))
+    (λ c.
+    c .make-line11 .ensures ∙ rw (c .before .enum-told .given .1, c .before .before .before .no-operand .ensures)))

@@ -53,10 +53,15 @@ returns-9 c =
     c .uses9 .ensures ∙ rw (c .before .match .keys9)
 
 returns-10 : tie.Need-returns-10
-unfolding rowOf sumOp targetOf
+unfolding rowOf opAt opTable targetOf
 returns-10 c =
+    c .uses10 .ensures ∙ rw (c .before .match .keys10)
+
+returns-11 : tie.Need-returns-11
+unfolding rowOf sumOp targetOf
+returns-11 c =
     let n = c .before .match .rest in
-    c .uses10 .ensures
+    c .uses11 .ensures
     ∙ rw (first-row (c .before .before .args .op)
     n)
 
@@ -65,5 +70,5 @@ row-of-spec =
     tie.close
     (tie.spec (λ c κs. search needs) (λ c κs. search needs) (λ c κs. search needs) (λ c κs. search needs)
     (λ c κs. search needs) (λ c κs. search needs) (λ c κs. search needs) (λ c κs. search needs)
-    (λ c κs. search needs) (λ c κs. search needs) returns returns-2 returns-3 returns-4 returns-5 returns-6
-    returns-7 returns-8 returns-9 returns-10)
+    (λ c κs. search needs) (λ c κs. search needs) (λ c κs. search needs) returns returns-2 returns-3 returns-4 returns-5 returns-6
+    returns-7 returns-8 returns-9 returns-10 returns-11)

@@ -34,6 +34,9 @@ fn main() -> ExitCode {
     ExitCode::from(status)
 }
 
+/// A family by its name, with what was measured of its programs.
+type Named<M> = (&'static str, Vec<M>);
+
 /// What the arguments ask for.
 struct Asked {
     slots: Option<usize>,
@@ -87,7 +90,7 @@ impl Asked {
             measured
         });
         print(NAME, FOOTER);
-        summary(&measured).iter().for_each(|line| print(NAME, line));
+        self.sum_up(measured, summary);
         let stack = self.families.iter().map(|family| stack(family)).max().unwrap_or_default();
         print(NAME, format!("stack of the proved checker: at most {stack} bytes, with that of the call"));
     }
@@ -101,14 +104,23 @@ impl Asked {
             print(NAME, index::line(family.name, slots, &measured));
             measured
         });
-        index::summary(&measured, slots).iter().for_each(|line| print(NAME, line));
+        self.sum_up(measured, |families| index::summary(families, slots));
+    }
+
+    /// Prints the lines below a table: first for families without fences, then for those with.
+    fn sum_up<M>(&self, measured: Vec<Named<M>>, lines: impl Fn(&[Named<M>]) -> Vec<String>) {
+        let (with, without): (Vec<_>, Vec<_>) =
+            measured.into_iter().zip(&self.families).partition(|(_, family)| family.has_fences());
+        let lines = |families: Vec<(Named<M>, _)>| {
+            let families: Vec<Named<M>> = families.into_iter().map(|(measured, _)| measured).collect();
+            lines(&families)
+        };
+        lines(without).iter().for_each(|line| print(NAME, line));
+        lines(with).iter().for_each(|line| print(NAME, format!("with fences, {line}")));
     }
 
     /// What is measured of each program, which gets that of the next smaller one of its family.
-    fn each<M>(
-        &self,
-        mut measure: impl FnMut(&Family, &Size, Option<&M>) -> M,
-    ) -> Vec<(&'static str, Vec<M>)> {
+    fn each<M>(&self, mut measure: impl FnMut(&Family, &Size, Option<&M>) -> M) -> Vec<Named<M>> {
         let of_family = |family: &&'static Family| {
             let mut all: Vec<M> = Vec::new();
             for size in self.sizes(family) {

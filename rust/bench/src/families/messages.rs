@@ -2,12 +2,23 @@
 
 use crate::text::{model, threads};
 
-/// Store buffering in a ring, with a fence: each thread writes its location, updates one that is there for nothing else,
-/// and reads the next thread's location.
+/// Store buffering in a ring, fenced by an update: each thread writes its location, updates one that is there for nothing
+/// else, and reads the next thread's location.
 pub fn fenced(rounds: &[usize]) -> String {
+    ring(rounds, &["f"], "r0 := FADD(f, 0)")
+}
+
+/// The same with a fence in place of that update.
+pub fn fence(rounds: &[usize]) -> String {
+    ring(rounds, &[], "fence")
+}
+
+/// Store buffering in a ring, with this line between the write and the read of each thread.
+fn ring(rounds: &[usize], beside: &[&str], between: &str) -> String {
     let own = |t: usize| format!("x{}", t % rounds.len());
-    let locations: Vec<String> = (0..rounds.len()).map(own).chain(["f".into()]).collect();
-    let lines = |t| format!("r1 := r3 + 1\n{} := r1\nr0 := FADD(f, 0)\nr0 := {}\n", own(t), own(t + 1));
+    let beside = beside.iter().map(|name| name.to_string());
+    let locations: Vec<String> = (0..rounds.len()).map(own).chain(beside).collect();
+    let lines = |t| format!("r1 := r3 + 1\n{} := r1\n{between}\nr0 := {}\n", own(t), own(t + 1));
     model(&locations, threads(rounds, lines))
 }
 

@@ -17,6 +17,9 @@ pub const ALL: &[Family] = &[
     Family { name: "fenced-2", sizes: FENCED_2, text: messages::fenced },
     Family { name: "fenced-3", sizes: FENCED_3, text: messages::fenced },
     Family { name: "fenced-4", sizes: FENCED_4, text: messages::fenced },
+    Family { name: "fence-2", sizes: FENCED_2, text: messages::fence },
+    Family { name: "fence-3", sizes: FENCED_3, text: messages::fence },
+    Family { name: "fence-4", sizes: FENCED_4, text: messages::fence },
     Family { name: "news-2", sizes: NEWS_2, text: messages::news },
     Family { name: "news-3", sizes: NEWS_3, text: messages::news },
     Family { name: "chain-3", sizes: CHAIN_3, text: messages::chain },
@@ -131,6 +134,7 @@ const SEQLOCK_3: &[Size] = &[
     size(&[3, 2, 2], 1_729_443),
 ];
 
+// A fence has as many situations as the update that it stands for.
 const FENCED_2: &[Size] = &[
     size(&[1, 0], 8),
     size(&[4, 0], 29),

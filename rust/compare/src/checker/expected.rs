@@ -33,6 +33,11 @@ impl Expected {
         self.program.as_ref().ok().map(|(_, search)| search)
     }
 
+    /// Whether the program is accepted and has a fence.
+    pub fn has_fence(&self) -> bool {
+        self.program.as_ref().is_ok_and(|(program, _)| program.has_fence())
+    }
+
     /// Whether the search found a witness.
     pub fn is_not_robust(&self) -> bool {
         self.search().is_some_and(|search| matches!(search.ending, Ending::Witness(_)))
@@ -49,9 +54,10 @@ impl Expected {
         place_size(threads, locations)
     }
 
-    /// T and L, both 0 if the program is refused.
+    /// The threads and the locations of a place, that of the fences counted; both 0 if the program is refused.
     pub(super) fn sizes(&self) -> (usize, usize) {
-        let sizes = |(program, _): &(Program, Search)| (program.threads.len(), program.locations.into());
+        let sizes =
+            |(program, _): &(Program, Search)| (program.threads.len(), program.all_locations().into());
         self.program.as_ref().map_or((0, 0), sizes)
     }
 

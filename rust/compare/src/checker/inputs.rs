@@ -14,7 +14,8 @@ use super::expected::{Expected, Lengths};
 /// it. The models have up to some 30,000.
 const PLACES: usize = 200;
 
-/// A random program for the comparison. One in four is scattered among more than eight locations.
+/// A random program for the comparison. One in four is scattered among more than eight locations, and about half have a
+/// fence.
 pub fn random_program(numbers: &mut Numbers) -> Program {
     let shape = Shape::mixed(numbers);
     let drawn = program(numbers, &shape);
@@ -81,6 +82,10 @@ pub struct Tally {
     pub programs: usize,
     /// Those with more than eight locations that are not robust.
     pub not_robust_above_8: usize,
+    /// Those with a fence.
+    pub fenced: usize,
+    /// Those with a fence that are not robust.
+    pub not_robust_fenced: usize,
     /// RB
     pub robust: usize,
     /// NR
@@ -89,8 +94,10 @@ pub struct Tally {
     pub full: usize,
     /// 10
     pub short_trace: usize,
-    /// 1 to 9
+    /// 1 to 9, and 12
     pub refused: usize,
+    /// 12
+    pub fence_refused: usize,
     /// Places compared, once for each time that they were due.
     pub places: usize,
     /// Steps compared in the same way, by their kinds: L, R, W, M.
@@ -102,10 +109,13 @@ pub struct Tally {
 impl Display for Tally {
     fn fmt(&self, to: &mut Formatter) -> fmt::Result {
         let Tally { programs, not_robust_above_8, places, steps: [l, r, w, m], indexed, .. } = self;
+        let Tally { fenced, not_robust_fenced, fence_refused, .. } = self;
         let Tally { robust, not_robust, full, short_trace, refused, .. } = self;
         write!(to, "{programs} programs, {places} places, {indexed} indexes; ")?;
         write!(to, "not robust with more than 8 locations: {not_robust_above_8} programs; ")?;
-        write!(to, "answers: RB {robust}, NR {not_robust}, FU {full}, 10 {short_trace}, 1 to 9 {refused}; ")?;
+        write!(to, "with a fence: {fenced}, of which {not_robust_fenced} are not robust; ")?;
+        write!(to, "answers: RB {robust}, NR {not_robust}, FU {full}, 10 {short_trace}, ")?;
+        write!(to, "refused {refused}, of these by 12 {fence_refused}; ")?;
         write!(to, "steps: L {l}, R {r}, W {w}, M {m}")
     }
 }
@@ -128,6 +138,7 @@ impl Tally {
             Answer::ShortTrace { .. } => &mut self.short_trace,
             Answer::Refused { .. } => &mut self.refused,
         } += 1;
+        self.fence_refused += usize::from(report.answer == Answer::Refused { number: 12 });
     }
 }
 
@@ -139,6 +150,8 @@ pub fn compare_program(bytes: &[u8], numbers: &mut Numbers, tally: &mut Tally) -
     let start = numbers.below(INDEXES / 2);
     tally.programs += 1;
     tally.not_robust_above_8 += usize::from(expected.sizes().1 > 8 && expected.is_not_robust());
+    tally.fenced += usize::from(expected.has_fence());
+    tally.not_robust_fenced += usize::from(expected.has_fence() && expected.is_not_robust());
     for (turn, lengths) in lengths(numbers, &expected).into_iter().enumerate() {
         let all = index_lengths(numbers, expected.places());
         let two = 2 * ((start + turn) % (INDEXES / 2));

@@ -50,6 +50,7 @@ fn fields(line: &Line) -> library::Fields {
         Line::Cas { reg, location, a, b } => made(8, reg, location, Some(a), Some(b)),
         Line::Wait { location, a } => made(9, 0, location, Some(a), None),
         Line::Bcas { location, a, b } => made(10, 0, location, Some(a), Some(b)),
+        Line::Fence => made(11, 0, 0, None, None),
     }
 }
 

@@ -11,7 +11,7 @@ pub struct Header {
     pub number: usize,
     /// T; 0 where the program is refused, as all that follows.
     pub threads: usize,
-    /// L.
+    /// L, the number of named locations.
     pub locations: usize,
     /// K.
     pub values: usize,

@@ -70,7 +70,7 @@ fn on_the_models() {
 fn on_random_programs() {
     let mut numbers = Numbers::new(7);
     let (mut exact, mut longest) = (0, 0);
-    for number in 0..3_000 {
+    for number in 0..4_000 {
         let drawn = match number % 2 {
             0 => program(&mut numbers, &Shape::winding()),
             _ => random_program(&mut numbers),

@@ -5,7 +5,7 @@ use answer::EightNumbers;
 use compare::checker::{decode, difference_in_one_call, index_after, Expected, Lengths};
 use models::collection;
 use order_check::{numbers, numbers_indexed};
-use program::{place_size, read};
+use program::read;
 use random::Numbers;
 
 const SLOTS: [usize; 8] = [1_023, 1_024, 1_025, 4_095, 4_096, 4_097, 5_000, 20_000];
@@ -27,8 +27,8 @@ impl Found {
     fn new(name: &str, places: usize) -> Found {
         let program = collection::named(name).unwrap().bytes;
         let read = read(&program).unwrap();
-        let (threads, locations) = (read.threads.len(), read.locations.into());
-        let size = place_size(threads, locations);
+        let (threads, locations) = (read.threads.len(), read.all_locations().into());
+        let size = read.place_size();
         let mut table = vec![0; places * size];
         let answer = numbers(&program, &mut table, &mut []);
         assert_eq!(answer[2], places as u64, "{name}");

@@ -3,7 +3,7 @@
 
 use compare::checker::{compare_program, random_program, Tally};
 use program::encode;
-use random::{damage, program, scattered, Numbers, Shape};
+use random::{damage, program, scattered, with_fences, Numbers, Shape};
 
 /// What was compared on so many inputs, each made of the numbers of a seed.
 fn compared(seed: u64, count: usize, input: impl Fn(&mut Numbers) -> Vec<u8>) -> Tally {
@@ -24,6 +24,25 @@ fn on_random_programs() {
     let Tally { robust, not_robust, full, short_trace, indexed, .. } = tally;
     assert!([robust, not_robust, full, short_trace].iter().all(|&count| count >= 500), "{tally}");
     assert!(indexed >= 40_000, "{tally}");
+    assert!(tally.fenced >= 1_000 && tally.not_robust_fenced >= 100, "{tally}");
+}
+
+#[test]
+fn on_programs_with_fences() {
+    let tally = compared(5, 1_500, |numbers| {
+        let drawn = program(numbers, &Shape::fenced());
+        encode(&if numbers.once_in(3) { scattered(numbers, drawn) } else { drawn })
+    });
+    assert!(tally.fenced >= 1_000 && tally.not_robust_fenced >= 200, "{tally}");
+}
+
+#[test]
+fn on_fences_that_are_refused_and_others() {
+    let tally = compared(6, 3_000, |numbers| {
+        let drawn = program(numbers, &Shape { locations: 15..=16, ..Shape::small() });
+        encode(&with_fences(numbers, drawn))
+    });
+    assert!(tally.fence_refused >= 1_000 && tally.fenced >= 1_000, "{tally}");
 }
 
 #[test]
@@ -49,5 +68,5 @@ fn on_damaged_programs() {
         damage(numbers, &mut bytes);
         bytes
     });
-    assert!(tally.refused >= 30_000 && tally.robust >= 1_000, "{tally}");
+    assert!(tally.refused >= 30_000 && tally.robust >= 1_000 && tally.fenced >= 100, "{tally}");
 }

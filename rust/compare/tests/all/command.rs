@@ -16,11 +16,16 @@ fn accepts_a_program() {
     let output = run(&[], b"PR\x01\x01\x02TH\x00");
     assert_eq!(printed(&output), "accepted: threads 1, locations 1, values 2\n");
     assert_eq!(output.status.code(), Some(0));
+    // The named locations are counted, and not that of the fences.
+    let output = run(&[], b"PR\x01\x0f\x02TH\x01IN\x0b\x00\x00\x00\x00");
+    assert_eq!(printed(&output), "accepted: threads 1, locations 15, values 2\n");
 }
 
 #[test]
 fn refuses_with_the_number_of_the_check() {
-    for (input, number) in [(&b""[..], 1), (b"PR\x01\x01\x01TH\x00", 2), (b"PR\x01\x01\x02", 3)] {
+    let fence = b"PR\x01\x10\x02TH\x01IN\x0b\x00\x00\x00\x00";
+    for (input, number) in [(&b""[..], 1), (b"PR\x01\x01\x01TH\x00", 2), (b"PR\x01\x01\x02", 3), (fence, 12)]
+    {
         let output = run(&["-"], input);
         assert_eq!(printed(&output), format!("NO {number}\n"));
         assert_eq!(output.status.code(), Some(1));

@@ -3,6 +3,7 @@
 
 mod call_again;
 mod checker_cases;
+mod checker_fences;
 mod checker_growing;
 mod checker_high;
 mod checker_index;

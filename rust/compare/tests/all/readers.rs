@@ -3,7 +3,7 @@
 use compare::reader::difference;
 use models::collection::{self, Model};
 use program::{encode, read};
-use random::{damage, noise, program, Numbers, Shape};
+use random::{damage, noise, program, with_fences, Numbers, Shape};
 
 fn models() -> Vec<Model> {
     let models = collection::load(&collection::directory()).unwrap();
@@ -23,7 +23,7 @@ fn same(bytes: &[u8]) {
 #[track_caller]
 fn same_on(seed: u64, inputs: usize, numbers: &[u8], make: impl Fn(&mut Numbers) -> Vec<u8>) {
     let mut row = Numbers::new(seed);
-    let mut answers = [0; 10];
+    let mut answers = [0; 13];
     for _ in 0..inputs {
         let bytes = make(&mut row);
         same(&bytes);
@@ -77,6 +77,39 @@ fn on_every_byte_after_a_model() {
 fn on_random_programs() {
     same_on(1, 4_000, &[0], |numbers| encode(&program(numbers, &Shape::any())));
     same_on(2, 6_000, &[0], |numbers| encode(&program(numbers, &Shape::small())));
+}
+
+#[test]
+fn on_every_op_beside_every_number_of_locations() {
+    for (op, locations) in (0..=255).flat_map(|op| (0..=17).map(move |locations| (op, locations))) {
+        let line = |fields: [u8; 4]| {
+            same(&[b"PR\x01".as_slice(), &[locations, 2], b"TH\x01IN", &[op], &fields].concat());
+        };
+        line([0; 4]);
+        for field in 0..4 {
+            for value in [1, 2, 3, 4, 14, 15, 16, 127, 128, 131, 132, 255] {
+                let mut fields = [0; 4];
+                fields[field] = value;
+                line(fields);
+            }
+        }
+    }
+}
+
+/// A few lines beside fourteen to sixteen locations, with a fence.
+fn fenced(numbers: &mut Numbers) -> Vec<u8> {
+    let drawn = program(numbers, &Shape { locations: 14..=16, lines: 0..=6, ..Shape::any() });
+    encode(&with_fences(numbers, drawn))
+}
+
+#[test]
+fn on_fences_beside_fourteen_to_sixteen_locations() {
+    same_on(6, 3_000, &[0, 12], fenced);
+    same_on(7, 10_000, &[0, 1, 2, 3, 4, 5, 6, 7, 8, 9, 12], |numbers| {
+        let mut bytes = fenced(numbers);
+        damage(numbers, &mut bytes);
+        bytes
+    });
 }
 
 #[test]

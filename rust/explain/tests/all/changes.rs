@@ -1,6 +1,6 @@
 //! Fences and read-modify-writes in a program.
 
-use explain::{changed, fence_location, Change, Changed};
+use explain::{changed, fence_locations, Change, Changed};
 use models::Source;
 use program::{Line, Operand, Program};
 
@@ -24,28 +24,31 @@ fn changed_program(program: &Program, changes: &[Change]) -> Option<Program> {
 #[test]
 fn a_fence_stands_directly_after_its_line() {
     let before = program("x y", "x := 1\nr0 := y\nthread\ny := 1\nr0 := x\n");
-    let after = program("x y f", "x := 1\nr1 := FADD(f, 0)\nr0 := y\nthread\ny := 1\nr0 := x\n");
+    let after = program("x y", "x := 1\nfence\nr0 := y\nthread\ny := 1\nr0 := x\n");
     let Changed { program, lines } = changed(&before, &[fence(0, 0)]).unwrap();
     assert_eq!(program, after);
     assert_eq!(lines, [vec![Some(0), None, Some(1)], vec![Some(0), Some(1)]]);
 }
 
 #[test]
-fn all_fences_share_a_location() {
+fn a_line_gets_one_fence() {
     let before = program("x y", "x := 1\nr0 := y\nthread\ny := 1\nr0 := x\n");
-    let after =
-        "x := 1\nr1 := FADD(f, 0)\nr0 := y\nr1 := FADD(f, 0)\nthread\ny := 1\nr1 := FADD(f, 0)\nr0 := x\n";
+    let after = "x := 1\nfence\nr0 := y\nfence\nthread\ny := 1\nfence\nr0 := x\n";
     let fences = [fence(1, 0), fence(0, 1), fence(0, 0), fence(0, 0)];
-    assert_eq!(changed_program(&before, &fences), Some(program("x y f", after)));
+    assert_eq!(changed_program(&before, &fences), Some(program("x y", after)));
 }
 
 #[test]
-fn fences_use_the_location_of_the_models_own_fences() {
-    let lines = |fence: &str| format!("x := 1\n{fence}r0 := y\nthread\nr0 := FADD(f, 0)\nBCAS(f, 0 -> 0)\n");
-    let before = program("f x y", &lines(""));
-    assert_eq!(fence_location(&before), Some(0));
-    let after = program("f x y", &lines("r1 := FADD(f, 0)\n"));
+fn fences_stand_beside_those_of_the_model() {
+    let lines = |fence: &str| format!("x := 1\n{fence}r0 := y\nthread\nfence\nr0 := FADD(f, 0)\n");
+    let [before, after] = ["", "fence\n"].map(|fence| program("f x y", &lines(fence)));
     assert_eq!(changed_program(&before, &[fence(0, 0)]), Some(after));
+}
+
+#[test]
+fn locations_of_older_fences_have_no_other_access() {
+    let lines = "x := 1\nr0 := FADD(g, 0)\nBCAS(h, 0 -> 0)\nfence\nthread\nr0 := CAS(g, 0 -> 0)\n";
+    assert_eq!(fence_locations(&program("e x g h", lines)), [2, 3]);
 }
 
 #[test]
@@ -62,16 +65,8 @@ fn a_location_with_any_other_access_is_none_for_fences() {
         "BCAS(f, r0 -> 0)",
     ] {
         let program = program("x f", &format!("x := 1\nr3 := FADD(f, 0)\nthread\n{line}\n"));
-        assert_eq!(fence_location(&program), None, "{line}");
+        assert_eq!(fence_locations(&program), [], "{line}");
     }
-}
-
-#[test]
-fn of_several_locations_for_fences_the_first_is_taken_that_has_some() {
-    let lines = "x := 1\nr0 := FADD(g, 0)\nr0 := FADD(h, 0)\n";
-    assert_eq!(fence_location(&program("e x g h", lines)), Some(2));
-    assert_eq!(fence_location(&program("x e f", "x := 1\n")), Some(1));
-    assert_eq!(fence_location(&program("x", "x := 1\n")), None);
 }
 
 #[test]
@@ -84,38 +79,17 @@ fn a_jump_goes_where_it_went_and_passes_no_fence_there() {
         )
     };
     let before = program("x", &lines(["", ""]));
-    let fenced = program("x f", &lines(["r2 := FADD(f, 0)\n"; 2]));
+    let fenced = program("x", &lines(["fence\n"; 2]));
     assert_eq!(changed_program(&before, &[fence(0, 0), fence(0, 1)]), Some(fenced));
-    let fenced = program("x f", &lines(["", "r2 := FADD(f, 0)\n"]));
+    let fenced = program("x", &lines(["", "fence\n"]));
     assert_eq!(changed_program(&before, &[fence(0, 1)]), Some(fenced));
 }
 
 #[test]
-fn a_fence_takes_a_register_that_the_thread_has_free() {
-    for (line, free) in [
-        ("r0 := 1", "r1"),
-        ("r1 := r0", "r2"),
-        ("r1 := r2 = r0", "r3"),
-        ("r3 := r2 < r0", "r1"),
-        ("r1 := 1", "r0"),
-        ("x := r0", "r1"),
-        ("wait(x = r0)", "r1"),
-        ("BCAS(x, r1 -> r0)", "r2"),
-        ("r0 := CAS(x, r2 -> r1)", "r3"),
-        ("r1 := FADD(x, r0)", "r2"),
-        ("if r0 goto end", "r1"),
-    ] {
-        let before = program("x", &format!("x := 1\n{line}\nend:\n"));
-        let after = program("x f", &format!("x := 1\n{free} := FADD(f, 0)\n{line}\nend:\n"));
-        assert_eq!(changed_program(&before, &[fence(0, 0)]), Some(after), "{line}");
-    }
-}
-
-#[test]
-fn a_fence_without_a_free_register_is_a_bcas() {
+fn a_fence_takes_no_register() {
     let lines = "x := r3\nr0 := r1 + r2\n";
     let before = program("x", &format!("x := 1\n{lines}"));
-    let after = program("x f", &format!("x := 1\nBCAS(f, 0 -> 0)\n{lines}"));
+    let after = program("x", &format!("x := 1\nfence\n{lines}"));
     assert_eq!(changed_program(&before, &[fence(0, 0)]), Some(after));
 }
 
@@ -127,7 +101,7 @@ fn there_is_no_room_past_the_limits() {
         program(&names.join(" "), &format!("a := 1\nr0 := b\n{others}"))
     };
     let fenced = changed_program(&of(&all[..15]), &[fence(0, 0)]).unwrap();
-    assert_eq!((fenced.locations, fenced.threads[0][1].location()), (16, Some(15)));
+    assert_eq!((fenced.locations, fenced.all_locations(), fenced.threads[0][1]), (15, 16, Line::Fence));
     assert_eq!(changed(&of(&all), &[fence(0, 0)]), None);
     assert!(changed(&of(&all), &[Change::Update { thread: 0, line: 1 }]).is_some());
     let long = |lines: usize| program("x", &("x := 1\n".repeat(lines) + "if r0 goto end\nend:\n"));
@@ -149,7 +123,8 @@ fn a_read_and_a_wait_become_read_modify_writes() {
 
 #[test]
 fn no_other_line_becomes_a_read_modify_write() {
-    for line in ["x := 1", "r0 := CAS(x, 0 -> 1)", "r0 := FADD(x, 1)", "BCAS(x, 0 -> 1)", "r0 := 1"] {
+    for line in ["x := 1", "r0 := CAS(x, 0 -> 1)", "r0 := FADD(x, 1)", "BCAS(x, 0 -> 1)", "r0 := 1", "fence"]
+    {
         let program = program("x", &format!("{line}\n"));
         assert_eq!(changed(&program, &[Change::Update { thread: 0, line: 0 }]), None, "{line}");
     }

@@ -3,7 +3,7 @@
 use answer::Kind;
 use explain::{flaw, holds, is_cycle, Edge, Execution, Relation};
 
-use crate::reported::{models_not_robust, random_not_robust, Reported};
+use crate::reported::{models_not_robust, random_fenced, random_not_robust, Reported};
 
 const RELATIONS: [Relation; 4] =
     [Relation::ProgramOrder, Relation::ReadsFrom, Relation::ModificationOrder, Relation::FromRead];
@@ -38,6 +38,22 @@ fn a_thousand_random_programs_have_a_cycle() {
     let programs = random_not_robust(1_000);
     assert_eq!(programs.len(), 1_000);
     programs.iter().for_each(has_a_cycle);
+}
+
+#[test]
+fn programs_with_fences_have_a_cycle_and_no_stale_fence() {
+    let programs = random_fenced(500);
+    programs.iter().for_each(has_a_cycle);
+    let mut met = 0;
+    for reported in programs {
+        let (execution, cycle) = cycle_of(&reported);
+        let of_fences = usize::from(reported.program.locations);
+        let is_fence = |event: usize| execution.events[event].location == of_fences;
+        assert_eq!(execution.orders.len(), of_fences + 1, "{}", reported.name);
+        assert!(!is_fence(execution.stale()), "{}", reported.name);
+        met += usize::from(cycle.iter().any(|edge| is_fence(edge.from) && is_fence(edge.to)));
+    }
+    assert!(met >= 5, "{met}");
 }
 
 /// The relations by how easy they are to read.

@@ -61,7 +61,7 @@ fn store_buffering_is_this_data() {
         "format verdict disassembled locations steps events modification_orders stale cycle help"
     );
     assert_eq!(data.text_of("verdict"), "not_robust");
-    assert_eq!(data.number("format"), Some(1));
+    assert_eq!(data.number("format"), Some(2));
     assert_eq!(data.get("disassembled"), &Value::Word("false"));
     assert_eq!(data.get("locations").items(), [Value::Text("x".into()), Value::Text("y".into())]);
     let step = data.get("steps").at(1);
@@ -85,7 +85,7 @@ fn the_trials_of_store_buffering_are_this_data() {
     let data = data(&explained(&model("sb")));
     let help = data.get("help");
     assert_eq!(help.number("checks"), Some(6));
-    assert_eq!(help.get("fence_location"), &Value::Word("null"));
+    assert_eq!(help.names().join(" "), "fences updates enough checks");
     let verdicts =
         |name| help.get(name).items().iter().map(|trial| trial.text_of("verdict")).collect::<Vec<_>>();
     assert_eq!(verdicts("fences"), ["not_robust", "not_robust", "robust"]);
@@ -99,9 +99,15 @@ fn the_trials_of_store_buffering_are_this_data() {
 }
 
 #[test]
-fn the_location_of_fences_has_its_name() {
-    let data = data(&explained(&model("sb+rmw")));
-    assert_eq!(data.get("help").text_of("fence_location"), "f");
+fn the_location_of_the_fences_has_its_name() {
+    let data = data(&explained(&model("sb+fence")));
+    let names = ["x", "y", "fence"].map(|name| Value::Text(name.into()));
+    assert_eq!(data.get("locations").items(), names);
+    assert_eq!(data.get("modification_orders").at(2).numbers(), [2, 4]);
+    let fence = data.get("events").at(4);
+    assert_eq!((fence.text_of("kind"), fence.text_of("location")), ("update", "fence"));
+    assert_eq!(["read", "written", "reads_from"].map(|name| fence.number(name)), [0, 0, 2].map(Some));
+    assert_eq!(data.get("steps").at(1).text_of("statement"), "fence");
 }
 
 /// Every step, event and edge of every model, against the explanation.

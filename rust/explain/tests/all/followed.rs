@@ -4,9 +4,9 @@ use explain::{changed, Change, Changed, Checked};
 use models::{disassemble, Source};
 use program::encode;
 
-use crate::edits::{advice, edited, fence_location, lines_of, with_fences, Advice};
+use crate::edits::{advice, edited, lines_of, Advice};
 use crate::reported::{check_in, explained, explained_by, of_source, source, text_of_model};
-use crate::reported::{models_not_robust, random_not_robust, Reported};
+use crate::reported::{models_not_robust, random_fenced, random_not_robust, Reported};
 
 /// The length of a table in which the models are decided.
 const TABLE: usize = 10_000_000;
@@ -18,7 +18,7 @@ struct Met {
     not_robust: usize,
     undecided: usize,
     no_room: usize,
-    /// How often fences had a location of the model.
+    /// How many models had fences.
     own: usize,
 }
 
@@ -26,14 +26,13 @@ struct Met {
 fn follow(reported: &Reported, text: &str, table: usize, met: &mut Met) {
     let explanation = explained_by(reported, &mut |program| check_in(table, program));
     let words = explanation.words(false);
-    let (title, entries) = advice(&words);
-    let location = fence_location(&title);
-    met.own += usize::from(location.is_some());
+    let (_, entries) = advice(&words);
+    met.own += usize::from(reported.program.has_fence());
     for Advice { verdict, change } in entries {
         if change.ends_with(": the language has none") || change.ends_with(": enough others were") {
             continue;
         }
-        let text = edited(text, &change, location.as_deref());
+        let text = edited(text, &change);
         let what = || format!("{}: {verdict}: {change}\n{text}\n{words}", reported.name);
         let checked = Source::of_text(text.as_bytes()).map(|edited| check_in(table, &edited.program));
         match (verdict.as_str(), checked) {
@@ -65,7 +64,7 @@ fn the_advice_on_random_programs_holds_in_their_text() {
     assert!(met.robust > 100 && met.not_robust > 500 && met.undecided > 0 && met.own > 0, "{met:?}");
 }
 
-/// The same with a fence after the first line, where that is not enough: they have a location for fences.
+/// The same with a fence after the first line, where that is not enough.
 #[test]
 fn the_advice_on_random_programs_with_a_fence_holds_in_their_text() {
     let mut met = Met::default();
@@ -78,6 +77,16 @@ fn the_advice_on_random_programs_with_a_fence_holds_in_their_text() {
         }
     }
     assert!(met.robust > 100 && met.not_robust > 500 && met.own > 100, "{met:?}");
+}
+
+#[test]
+fn the_advice_on_random_programs_of_fences_holds_in_their_text() {
+    let mut met = Met::default();
+    for reported in random_fenced(200) {
+        let text = disassemble(&encode(&reported.program)).unwrap();
+        follow(&reported, &text, 1_000_000, &mut met);
+    }
+    assert!(met.robust > 100 && met.not_robust > 200 && met.own == 200, "{met:?}");
 }
 
 /// The words on a model, all of whose advice holds.
@@ -96,52 +105,53 @@ fn verdicts_on(words: &str, lines: &[usize]) -> Vec<String> {
 
 #[test]
 fn a_fence_of_the_model_needs_only_one_more() {
-    let words = followed(&text_of_model("sb+rmw"));
-    assert!(words.contains("with it (a fence is\nFADD(f, 0)):\n"), "{words}");
+    let words = followed(&text_of_model("sb+fence"));
     assert_eq!(verdicts_on(&words, &[11]), ["robust"], "{words}");
-    assert_eq!(verdicts_on(&words, &[7]), ["not robust"], "{words}");
+    assert_eq!(verdicts_on(&words, &[7]), Vec::<String>::new(), "there is one already: {words}");
 }
 
-/// On a location of their own the two fences would be enough; beside the fence of the first thread they are not.
+#[test]
+fn fences_of_an_older_form_are_apart() {
+    let words = followed(&text_of_model("sb+rmw"));
+    let title = "\nWhat would help, and what the checker says of the model with it (a fence is the\n\
+        line 'fence'; those on f are not ordered with it, and are best written so too):\n";
+    assert!(words.contains(title), "{words}");
+    assert_eq!(verdicts_on(&words, &[11]), ["not robust"], "{words}");
+    assert_eq!(verdicts_on(&words, &[7, 11]), ["robust"], "{words}");
+}
+
+/// Without the fence of the first thread two would be enough; beside it they are not.
 #[test]
 fn fences_beside_those_of_the_model_may_need_more() {
-    let text = "values 2\nlocations x y z f\nthread\nr1 := FADD(f, 0)\nr0 := x\nthread\nx := 1\nr0 := y\n\
+    let text = "values 2\nlocations x y z\nthread\nfence\nr0 := x\nthread\nx := 1\nr0 := y\n\
         thread\ny := 1\nr0 := z\nthread\nz := 1\nr0 := y\n";
     let words = followed(text);
     assert_eq!(verdicts_on(&words, &[10, 13]), ["not robust"], "{words}");
     assert_eq!(verdicts_on(&words, &[7, 10, 13]), ["robust"], "{words}");
-    let apart = source(&with_fences(text, &[10, 13], None));
-    assert_eq!(check_in(TABLE, &apart.program), Checked::Robust);
+    let words = followed(&text.replace("fence\n", "\n"));
+    assert_eq!(verdicts_on(&words, &[10, 13]), ["robust"], "{words}");
 }
 
 /// Store buffering with this line in the second thread, and a third one that uses so many other locations.
 fn beside(others: usize, line: &str) -> String {
-    let names = &["a", "b", "c", "d", "e", "g", "h", "i", "j", "k", "l", "m", "n"][..others];
+    let names = &["a", "b", "c", "d", "e", "f", "g", "h", "i", "j", "k", "l", "m", "n"][..others];
     let writes: String = names.iter().map(|name| format!("{name} := 1\n")).collect();
     format!(
-        "values 2\nlocations x y f {}\nthread\nx := 1\nr0 := y\nthread\ny := 1\n{line}\nr0 := x\nthread\n{writes}",
+        "values 2\nlocations x y {}\nthread\nx := 1\nr0 := y\nthread\ny := 1\n{line}\nr0 := x\nthread\n{writes}",
         names.join(" ")
     )
 }
 
+/// The location of the fences is one of sixteen. Without it only a read-modify-write can be tried.
 #[test]
-fn a_model_of_sixteen_locations_has_room_for_fences_on_its_own() {
-    let words = followed(&beside(13, "BCAS(f, 0 -> 0)"));
-    assert_eq!(verdicts_on(&words, &[4]), ["robust"], "{words}");
-    let used = |others| followed(&beside(others, "BCAS(f, 0 -> 1)"));
-    assert_eq!(verdicts_on(&used(13), &[4]), ["not tried"]);
-    assert_eq!(verdicts_on(&used(13), &[4, 7]), ["not tried"]);
-    assert_eq!(verdicts_on(&used(12), &[4]), ["not robust"], "one more is the sixteenth");
-    assert_eq!(verdicts_on(&used(12), &[4, 7]), ["robust"]);
-}
-
-#[test]
-fn a_fence_in_a_thread_that_uses_all_registers_is_said_to_be_a_bcas() {
-    let text = "values 2\nlocations x y\nthread\nx := 1\nr0 := y\nr1 := r2 + r3\nthread\ny := 1\nr0 := x\n";
-    let words = followed(text).replace('\n', " ");
-    let fence = "FADD of 0 on a new location that only fences use, or BCAS from 0 to 0 on it where no register is free";
-    assert!(words.contains(&format!("(a fence is {fence}):")), "{words}");
-    let words = followed(&text.replace("x y", "x y f")).replace('\n', " ");
-    let fence = "FADD(f, 0), or BCAS(f, 0 -> 0) where no register is free";
-    assert!(words.contains(&format!("(a fence is {fence}):")), "{words}");
+fn a_model_of_sixteen_locations_has_no_room_for_fences() {
+    let full = followed(&beside(14, ""));
+    assert_eq!(verdicts_on(&full, &[4]), ["not tried"]);
+    assert_eq!(verdicts_on(&full, &[4, 7]), ["not tried"]);
+    assert!(full.contains("\n  not robust  FADD(y, 0) in place of line 5 (r0 := y)\n"), "{full}");
+    let fits = followed(&beside(13, ""));
+    assert_eq!(verdicts_on(&fits, &[4]), ["not robust"]);
+    assert_eq!(verdicts_on(&fits, &[4, 7]), ["robust"]);
+    let own = followed(&beside(13, "fence"));
+    assert_eq!(verdicts_on(&own, &[4]), ["robust"], "{own}");
 }

@@ -1,11 +1,12 @@
 //! What is said to help does, by the checker.
 
-use explain::{changed, Change, Checked, Help, Trial, Verdict, MOST_CHECKS};
+use explain::{changed, Change, Checked, Edge, Help, Relation, Trial, Verdict, MOST_CHECKS};
 use models::Source;
-use program::Program;
+use program::{Line, Program};
 
 use crate::reported::{
-    check, explained, explained_by, model, models_not_robust, of_source, source, Reported,
+    check, check_in, explained, explained_by, model, models_not_robust, of_source, random_fenced, source,
+    Reported,
 };
 
 fn fence(thread: usize, after: usize) -> Change {
@@ -102,6 +103,30 @@ fn the_models_have_fences_that_are_enough_and_none_too_many() {
     }
 }
 
+/// Where a fence comes between two accesses already, none more is tried; but never everywhere on a cycle.
+#[test]
+fn no_fence_is_tried_beside_another_and_always_some() {
+    let programs = random_fenced(300);
+    assert_eq!(programs.len(), 300);
+    let mut left_out = 0;
+    for reported in programs {
+        let explanation = explained_by(&reported, &mut |program| check_in(1_000_000, program));
+        let threads = &reported.program.threads;
+        let Help { fences, enough, .. } = explanation.help();
+        assert!(!fences.is_empty() && !enough.changes.is_empty(), "{}", reported.name);
+        for change in fences.iter().flat_map(|trial| &trial.changes) {
+            let Change::Fence { thread, after, before } = *change else { panic!("{change:?}") };
+            let is_fence = |line: usize| threads[thread][line] == Line::Fence;
+            assert!(!is_fence(after) && !is_fence(before), "{}: {change:?}", reported.name);
+        }
+        let is_order = |edge: &&Edge| edge.relation == Relation::ProgramOrder;
+        let edges = explanation.cycle().iter().filter(is_order).count();
+        let alone = fences.iter().filter(|trial| trial.changes.len() == 1).count();
+        left_out += usize::from(alone < edges);
+    }
+    assert!(left_out > 20, "{left_out}");
+}
+
 #[test]
 fn a_checker_that_does_not_decide_is_believed() {
     let explanation = explained_by(&model("sb"), &mut |_| Checked::Undecided);
@@ -144,9 +169,24 @@ fn what_has_no_room_is_said_in_words() {
     let [fits, full] = [fits, full].map(|explanation| explanation.words(false));
     let change = "a fence directly after line 4 (x := 1), before line 5 (r0 := y)";
     assert!(fits.contains(&format!("not robust  {change}")), "{fits}");
-    let reason = "a model has at most 16 locations, and a thread 64 lines";
-    let unwrapped = full.split_whitespace().collect::<Vec<_>>().join(" ");
-    assert!(unwrapped.contains(&format!("not tried {change}: {reason}")), "{full}");
+    says_no_room(&full, change, "a model with a fence has at most 15 locations");
+}
+
+/// The words have the change as one that was not tried, for this reason and no other.
+fn says_no_room(words: &str, change: &str, reason: &str) {
+    let unwrapped = words.split_whitespace().collect::<Vec<_>>().join(" ");
+    assert!(unwrapped.contains(&format!("not tried {change}: {reason}")), "{words}");
+    assert_eq!(unwrapped.matches("at most").count(), unwrapped.matches(reason).count(), "{words}");
+}
+
+#[test]
+fn a_thread_with_all_its_lines_has_no_room_for_a_fence() {
+    let more = "x := 1\n".repeat(62);
+    let threads = format!("thread\nx := 1\nr0 := y\n{more}thread\ny := 1\nr0 := x\n");
+    let text = format!("values 2\nlocations x y\n{threads}");
+    let words = explained(&of_source("all lines used", source(&text)).unwrap()).words(false);
+    let change = "a fence directly after line 4 (x := 1), before line 5 (r0 := y)";
+    says_no_room(&words, change, "a thread has at most 64 lines");
 }
 
 /// Threads that are written once share their lines: a change of a line is one of each of them.

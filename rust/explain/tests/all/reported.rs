@@ -94,7 +94,19 @@ fn of_model(model: Model) -> Reported {
 pub fn random_not_robust(count: usize) -> Vec<Reported> {
     let mut numbers = Numbers::new(2019);
     let shapes = [Shape::litmus(), Shape::winding(), Shape::racing(), Shape::looping(), Shape::wide()];
-    let programs = (0..).map(|number| random::program(&mut numbers, &shapes[number % shapes.len()]));
+    random_of(&mut numbers, &shapes, count)
+}
+
+/// So many that are not robust, of programs with fences.
+pub fn random_fenced(count: usize) -> Vec<Reported> {
+    let mut found = random_of(&mut Numbers::new(5), &[Shape::fenced()], 2 * count);
+    found.retain(|reported| reported.program.has_fence());
+    found.truncate(count);
+    found
+}
+
+fn random_of(numbers: &mut Numbers, shapes: &[Shape], count: usize) -> Vec<Reported> {
+    let programs = (0..).map(|number| random::program(numbers, &shapes[number % shapes.len()]));
     let found = programs.enumerate().filter_map(|(number, program)| {
         let source = Source::of_bytes(&encode(&program)).unwrap();
         of_source(&format!("program {number}"), source)

@@ -25,8 +25,7 @@ No SC run can do this, as each of these would have to come before the next:
   2  thread 1  line 8   reads y = 0   read older than  3  writes y = 1
   3  thread 2  line 10  writes y = 1  program order    4  reads x = 0
 
-What would help, and what the checker says of the model with it (a fence is FADD
-of 0 on a new location that only fences use):
+What would help, and what the checker says of the model with it:
   robust      fences directly after lines 7 and 10
   not robust  a fence directly after line 7 (x := 1), before line 8 (r0 := y)
   not robust  a fence directly after line 10 (y := 1), before line 11 (r0 := x)
@@ -77,9 +76,45 @@ fn a_read_modify_write_has_both_values() {
     assert!(run.contains("r3 := FADD(x, 2)        x: 2 -> 1 (from step 2)\n"), "{run}");
     assert!(run.contains("r0 := CAS(x, 1 -> 0)    reads x = 2 of step 2\n"), "{run}");
     assert!(
-        cycle.contains("11  thread 1  line 20  x: 1 -> 0     program order    12  reads y = 0\n"),
+        cycle.contains("11  thread 1  line 20  x: 1 -> 0     program order    13  reads y = 0\n"),
         "{cycle}"
     );
+}
+
+/// Two fences too many, as docs/MODELLING.md has them.
+const FENCES: &str = "values 2\nlocations x y\nthread\nx := 1\nr0 := y\nthread\ny := 1\nfence\n\
+    thread\nfence\nr0 := x\n";
+
+#[test]
+fn a_fence_is_said_to_be_one_and_comes_after_another() {
+    let words = explained(&of_source("fences", source(FENCES)).unwrap()).words(false);
+    let run = "\
+The run:
+  step  thread  line  statement  what it does
+     1       1     4  x := 1     writes x = 1
+     2       1     5  r0 := y    reads y = 0 (starting value)
+     3       2     7  y := 1     writes y = 1
+     4       2     8  fence      a fence, the first
+     5       3    10  fence      a fence, after that of step 4
+     6       3    11  r0 := x    reads x = 0 (starting value)
+";
+    assert!(words.starts_with(run), "{words}");
+    let cycle = "
+  6  thread 3  line 11  reads x = 0   read older than  1  writes x = 1
+  1  thread 1  line 4   writes x = 1  program order    2  reads y = 0
+  2  thread 1  line 5   reads y = 0   read older than  3  writes y = 1
+  3  thread 2  line 7   writes y = 1  program order    4  a fence
+  4  thread 2  line 8   a fence       fence order      5  a fence
+  5  thread 3  line 10  a fence       program order    6  reads x = 0
+";
+    assert!(words.contains(cycle), "{words}");
+    // The other two threads have theirs.
+    let help = "
+What would help, and what the checker says of the model with it:
+  robust      a fence directly after line 4 (x := 1), before line 5 (r0 := y)
+";
+    assert!(words.contains(help), "{words}");
+    assert_eq!(words.matches("a fence directly after").count(), 1, "{words}");
 }
 
 /// Both threads take x from 0 to 1: the second one's step is stale.
@@ -156,10 +191,9 @@ fn random_programs_are_explained_whole() {
     for reported in random_not_robust(100) {
         let words = explained_by(&reported, &mut |program| check_in(100_000, program)).words(true);
         assert_eq!(words.matches("\n\n").count(), 3, "{}: {words}", reported.name);
-        assert_eq!(
-            words.matches("program order").count(),
-            words.matches("a fence directly after").count(),
-            "{words}"
-        );
+        let [orders, fences] =
+            ["program order", "a fence directly after"].map(|it| words.matches(it).count());
+        let is_fenced = reported.program.has_fence();
+        assert!(orders == fences || is_fenced && (1..orders).contains(&fences), "{words}");
     }
 }

@@ -1,5 +1,6 @@
 //! Lines with more than one access, or with another form of one.
 
+use super::fences::{is_old_fence, IS_LINE};
 use super::values::taking_away;
 use super::{comes_operand, is_end, is_location, FREE, IN_A_REGISTER, IS_FREE};
 use crate::instruction::Scope;
@@ -21,7 +22,8 @@ fn form(before: &[Piece], rest: &[Piece]) -> Option<String> {
             [Sign(","), b, Sign(")"), ..],
         ) => Some(format!("write '{op}({x}, {} -> {})'", a.text()?, b.text()?)),
         ([] | [_, Sign(":=")], [Word(op @ ("CAS" | "FADD")), ..]) => {
-            Some(format!("a register gets the value found: '{FREE} := {op}(..)'{IS_FREE}"))
+            let fence = if is_old_fence(rest) { IS_LINE } else { "" };
+            Some(format!("a register gets the value found: '{FREE} := {op}(..)'{IS_FREE}{fence}"))
         }
         ([_, Sign(":=")], [Word(op @ ("BCAS" | "wait")), ..]) => Some(format!("'{op}' stands without ':='")),
         ([Word("wait"), Sign("("), Word(x)], [Sign(")"), ..])

@@ -1,7 +1,8 @@
 //! Words of C and of processors that have another line here, or none.
 
+use super::fences::fence;
 use super::orders::{orders, Orders};
-use super::{is_end, target};
+use super::target;
 use crate::instruction::Scope;
 use crate::lexer::Piece::{self, Sign, Word};
 
@@ -18,25 +19,6 @@ pub fn hint(before: &[Piece], rest: &[Piece], scope: &Scope) -> Option<String> {
         [Sign(":="), ..] => None,
         [Sign("("), inside @ ..] => known().or_else(|| function(&word, inside, target(before, scope))),
         _ => known(),
-    }
-}
-
-/// A fence that is weaker than a full one, or may be, must not become one.
-fn fence(word: &str, after: &[Piece]) -> Option<&'static str> {
-    if !matches!(word, "fence" | "mfence" | "dmb" | "__dmb" | "atomic_thread_fence" | "__sync_synchronize") {
-        return None;
-    }
-    let mut words = after.iter().take_while(|piece| !is_end(piece)).filter_map(Piece::text);
-    let order = words.next().map(str::to_lowercase).unwrap_or_default();
-    match order.strip_prefix("memory_order_").unwrap_or(&order) {
-        "" | "seq_cst" | "sy" | "ish" => Some(
-            "there is no line for a fence: 'BCAS(f, 0 -> 0)' on a location that only fences use \
-             stands for a seq_cst one",
-        ),
-        "acquire" | "release" | "acq_rel" => {
-            Some("leave this fence out: all accesses of a model are acquire and release")
-        }
-        _ => None,
     }
 }
 

@@ -88,7 +88,7 @@ fn what_a_hint_offers_in_quotes_assembles() {
         ("x += mine", 4),
         ("r1++", 1),
         ("r0 := x++", 1),
-        ("fence", 1),
+        ("mfence", 1),
         ("wait(x)", 2),
         ("store(x, 1)", 1),
         ("r0 := load(x)", 1),

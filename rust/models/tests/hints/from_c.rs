@@ -1,16 +1,112 @@
 //! Lines of C, and instructions of processors.
 
-use crate::{line, lines, three};
+use crate::{headers, line, lines, offered, three};
 
 #[test]
 fn fences() {
-    let full = "there is no line for a fence: 'BCAS(f, 0 -> 0)' on a location that only fences use \
-                stands for a seq_cst one";
+    let full = "a fence is the line 'fence', with nothing else on it";
+    lines(full, &["FENCE", "Fence", "fence()", "fence();", "fence(seq_cst)", "fence sy", "fence rw, rw"]);
+    lines(full, &["mfence", "end: MFENCE", "dmb", "dmb ish", "DMB SY", "__DMB();", "mfence // full"]);
     lines(
         full,
-        &["fence", "FENCE", "fence();", "mfence", "end: MFENCE", "dmb", "dmb ish", "DMB SY", "__DMB();"],
+        &["smp_mb()", "smp_mb();", "mb()", "__sync_synchronize()", "_mm_mfence();", "MemoryBarrier();"],
     );
-    lines(full, &["atomic_thread_fence(memory_order_seq_cst);", "__sync_synchronize()", "fence // full"]);
+    lines(full, &["sync", "hwsync", "dsb", "dsb sy", "DSB ISH"]);
+    lines(
+        full,
+        &[
+            "atomic_thread_fence(memory_order_seq_cst);",
+            "atomic_thread_fence(std::memory_order_seq_cst);",
+            "atomic_thread_fence(memory_order::seq_cst)",
+            "__atomic_thread_fence(__ATOMIC_SEQ_CST);",
+            "fence(Ordering::SeqCst);",
+        ],
+    );
+    assert_eq!(offered("mfence"), ["fence"]);
+    lines("did you mean 'fence'?", &["fense", "fecne", "fences", "Fences()"]);
+    lines("a comment starts with #", &["fence // full"]);
+    lines("a line ends without ';', and only one stands on a line", &["fence;"]);
+}
+
+/// The first module is a label to the reader.
+#[test]
+fn a_fence_with_its_modules_in_front_is_one_too() {
+    lines(
+        "a fence is the line 'fence', with nothing else on it",
+        &[
+            "std::atomic_thread_fence(std::memory_order_seq_cst);",
+            "std::sync::atomic::fence(Ordering::SeqCst);",
+            "std::sync::atomic::fence(std::sync::atomic::Ordering::SeqCst);",
+            "atomic::fence(SeqCst)",
+            "end: atomic::fence(SeqCst)",
+        ],
+    );
+    lines(
+        "leave this fence out: all accesses of a model are acquire and release",
+        &["std::atomic_thread_fence(std::memory_order_acquire);", "atomic::fence(Ordering::Release)"],
+    );
+    for text in [
+        "std::atomic_thread_fence(std::memory_order_relaxed)",
+        "std::atomic_thread_fence(std::memory_order_consume)",
+        "std::sync::atomic::compiler_fence(Ordering::SeqCst)",
+        "std::atomic_signal_fence(std::memory_order_seq_cst)",
+        "end: : fence.i",
+        "std::",
+        "::fence()",
+    ] {
+        assert_eq!(line(text), None, "{text}");
+    }
+}
+
+#[test]
+fn a_fence_shares_its_line_with_nothing() {
+    lines(
+        "a fence is the line 'fence', with nothing else on it",
+        &["fence x", "fence(x)", "fence r1", "fence mine", "fence 1", "fence fence", "fence x := 1"],
+    );
+    lines(
+        "a fence is the line 'fence', with nothing else on it",
+        &["x := 1 fence", "r1 := x fence", "wait(x = 1) fence", "goto again fence", "x := 1 fence()"],
+    );
+    lines(
+        "leave this fence out: all accesses of a model are acquire and release",
+        &["x := 1 fence(acquire)"],
+    );
+    for text in ["fence y", "fence(0)", "fence x, x", "fence(x, x)", "fence.i", "x := 1 fence w, w"] {
+        assert_eq!(line(text), None, "{text}");
+    }
+}
+
+/// A read-modify-write of a location that only fences use is one too, but a longer line than it takes.
+#[test]
+fn fences_of_older_models() {
+    let plain = "a fence is the line 'fence', and needs no location";
+    lines(plain, &["r3 := FADD(f, 0)", "BCAS(f, 0 -> 0)", "r3 := CAS(f, 0 -> 0)"]);
+    lines("did you mean 'flag'?", &["r3 := FADD(flg, 0)"]);
+    lines("a fence is the line 'fence', with nothing else on it", &["r3 := FADD(fence, 0)", "r3 := fence"]);
+    let found = "a register gets the value found: 'rN := FADD(..)', where rN is a free register";
+    lines(&format!("{found}; a fence is the line 'fence'"), &["FADD(x, 0)", "FADD(f, 0)", "FADD(fence, 0)"]);
+    lines(found, &["FADD(x, 1)"]);
+    for text in ["r3 := FADD(f, 1)", "BCAS(f, 0 -> 1)", "wait(f = 0)"] {
+        assert_eq!(line(text), None, "{text}");
+    }
+}
+
+#[test]
+fn a_fence_is_no_name() {
+    let other = "a fence is the line 'fence', and needs no location: take another name for anything else";
+    lines(other, &["fence := 1"]);
+    let label = "a fence is the line 'fence': take another name for the label";
+    lines(label, &["fence:", "fence: x := 1", "end: fence: x := 1", "goto fence", "if r1 goto fence"]);
+    headers(other, &["values 2\nlocations x fence\n", "values 2\nconstants fence = 1\n"]);
+    headers(other, &["values 2\nregisters fence = r1\n"]);
+}
+
+#[test]
+fn a_fence_without_room_has_a_way_to_get_it() {
+    let text = "values 2\nlocations a b c d e f g h i j k l m n o p\nthread\nfence\n";
+    let room = "a fence has a location of its own, and 16 are the most: leave one out of 'locations'";
+    headers(room, &[text]);
 }
 
 /// A full fence in its place would be stronger.
@@ -22,16 +118,30 @@ fn a_weaker_fence_does_not_become_a_full_one() {
             "atomic_thread_fence(memory_order_acquire);",
             "atomic_thread_fence(memory_order_release)",
             "atomic_thread_fence(memory_order_acq_rel)",
+            "__atomic_thread_fence(__ATOMIC_ACQ_REL)",
             "fence acquire",
+            "fence(release);",
+            "fence(Ordering::AcqRel)",
+            "smp_rmb()",
+            "smp_wmb();",
+            "lfence",
+            "SFENCE",
+            "lwsync",
+            "dmb ishst",
+            "DMB ISHLD",
+            "fence.tso",
         ],
     );
     for text in [
-        "dmb ishst",
-        "dmb ishld",
+        "dsb ishst",
+        "dmb nsh",
         "fence w, w",
+        "fence r, rw",
+        "__threadfence()",
+        "fence(relaxed)",
         "atomic_thread_fence(order)",
         "atomic_signal_fence()",
-        "fence := 1",
+        "pfence",
     ] {
         assert_eq!(line(text), None, "{text}");
     }

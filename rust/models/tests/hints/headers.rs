@@ -53,6 +53,7 @@ fn lines_before_the_first_thread() {
         "again:",
         "wait(x = 1)",
         "CAS(x, 0 -> 1)",
+        "fence",
     ] {
         headers(first, &[&format!("{header}{line}\nthread\n")]);
     }

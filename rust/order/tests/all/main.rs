@@ -1,6 +1,7 @@
 //! The command `order`, run as users run it.
 #![forbid(unsafe_code)]
 
+mod fences;
 mod files;
 mod locations;
 mod output;

@@ -2,16 +2,7 @@
 
 use std::fs;
 
-use crate::user::{ends, ends_quietly, finish, folder, order, run, SB, SB_LINES};
-
-/// What it prints, with this status and nothing said.
-#[track_caller]
-fn printed(arguments: &[&str], input: &[u8], status: i32) -> String {
-    let output = run(arguments, input);
-    let text = String::from_utf8(output.stdout.clone()).unwrap();
-    ends_quietly(&output, status, &text);
-    text
-}
+use crate::user::{ends, ends_quietly, finish, folder, order, printed, run, SB, SB_LINES};
 
 #[test]
 fn not_robust_is_explained_by_a_run_and_a_cycle() {
@@ -68,17 +59,46 @@ fn robust_is_explained_by_what_it_allows() {
 
 #[test]
 fn fences_stay_fences() {
-    let fences = |text: &str| text.lines().find(|line| line.contains("fence")).map(str::to_owned);
-    let shown = |lines: &str| Some(format!("    fences: {lines:<40} stay seq_cst fences"));
+    let many = |lines: &str| format!("    fences: {lines:<40} stay seq_cst fences");
+    let one = |line: &str| format!("    fence: {line:<41} stays a seq_cst fence");
     let text = printed(&["--explain", "sb+rmws.order"], b"", 0);
-    assert_eq!(fences(&text), shown("lines 8 and 12"));
-    assert_eq!(fences(&printed(&["--explain", "page-queue-cas.order"], b"", 0)), None);
+    assert_eq!(fences(&text), [many("lines 9 and 13 (FADD of 0 on f)")]);
+    assert!(fences(&printed(&["--explain", "page-queue-cas.order"], b"", 0)).is_empty());
+    let model = "values 2\nlocations x\nthread * 2\n  fence\n";
+    assert_eq!(fences(&printed(&["--explain", "-"], model.as_bytes(), 0)), [one("line 4")]);
     // Every form on every location of its own; an unused location has none.
     let model =
         "values 2\nlocations f g h spare\nthread\n  r0 := FADD(f, 0)\n  BCAS(g, 0 -> 0)\nthread * 2\n\
         \x20 r0 := CAS(g, 0 -> 0)\n  r0 := FADD(h, 1)\n";
     let text = printed(&["--explain", "-"], model.as_bytes(), 0);
-    assert_eq!(fences(&text), shown("lines 4, 5 and 7"));
+    let both = "lines 5 and 7 (BCAS from 0 to 0, CAS";
+    let rows = [one("line 4 (FADD of 0 on f)"), format!("    fences: {both}"), many("from 0 to 0 on g)")];
+    assert_eq!(
+        fences(&text),
+        [&rows[0], &rows[1], &rows[2].replace("fences:", "       ")].map(String::as_str)
+    );
+}
+
+/// The lines about fences.
+fn fences(text: &str) -> Vec<&str> {
+    let starts = text.lines().skip_while(|line| !line.starts_with("    fence"));
+    starts.take_while(|line| !line.is_empty()).collect()
+}
+
+#[test]
+fn many_fences_are_named_in_several_lines() {
+    let lines = "  fence\n".repeat(30);
+    let text = printed(&["--explain", "-"], format!("values 2\nlocations x\nthread\n{lines}").as_bytes(), 0);
+    let found = fences(&text);
+    assert_eq!(
+        found,
+        [
+            "    fences: lines 4, 5, 6, 7, 8, 9, 10, 11, 12, 13,",
+            "            14, 15, 16, 17, 18, 19, 20, 21, 22, 23,",
+            "            24, 25, 26, 27, 28, 29, 30, 31, 32 and",
+            "            33                                       stay seq_cst fences",
+        ]
+    );
 }
 
 #[test]
@@ -129,7 +149,7 @@ fn each_file_is_a_line_of_data() {
         .contains("\"report\":\"NR 7 3 2 R 0 0\",\"steps\":[\"ST 1 W 0 1\",\"ST 1 R 1 0\",\"ST 2 W 1 1\"]"));
     assert!(lines[0].contains("\"situations\":7,\"table_bytes\":49152,\"index_bytes\":0,"), "{text}");
     assert!(
-        lines[0].contains("\"explanation\":{\"format\":1,") && lines[0].contains("\"cycle\":[{\"from\":"),
+        lines[0].contains("\"explanation\":{\"format\":2,") && lines[0].contains("\"cycle\":[{\"from\":"),
         "{text}"
     );
     assert!(lines[1].starts_with(&start("missing.order", "null")), "{text}");

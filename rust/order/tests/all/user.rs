@@ -63,6 +63,15 @@ pub fn ends_quietly(output: &Output, status: i32, stdout: &str) {
     assert_eq!(ends(output, status, stdout), "");
 }
 
+/// What it prints, with this status and nothing said.
+#[track_caller]
+pub fn printed(arguments: &[&str], input: &[u8], status: i32) -> String {
+    let output = run(arguments, input);
+    let text = String::from_utf8(output.stdout.clone()).unwrap();
+    ends_quietly(&output, status, &text);
+    text
+}
+
 /// An empty folder of the test's own.
 pub fn folder(test: &str) -> PathBuf {
     let folder = Path::new(env!("CARGO_TARGET_TMPDIR")).join(test);

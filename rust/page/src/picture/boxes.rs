@@ -1,5 +1,7 @@
 //! Where the boxes of the events stand, from top to bottom too.
 
+use std::collections::BTreeMap;
+
 use super::frame::{Frame, Span};
 use super::Drawing;
 
@@ -40,8 +42,8 @@ pub fn starts_end(frame: &Frame) -> i32 {
     frame.tiers() as i32 * (HEIGHT + TIER_GAP) - TIER_GAP
 }
 
-/// The box of each event, with so much room below the starting writes.
-pub fn boxes(drawing: &Drawing, frame: &Frame, turns: i32) -> Vec<Rect> {
+/// The box of each event that is drawn, with so much room below the starting writes.
+pub fn boxes(drawing: &Drawing, frame: &Frame, turns: i32) -> BTreeMap<usize, Rect> {
     let rect = |event| {
         let y = match drawing.row(event) as i32 {
             0 => (event % frame.tiers()) as i32 * (HEIGHT + TIER_GAP),
@@ -50,5 +52,5 @@ pub fn boxes(drawing: &Drawing, frame: &Frame, turns: i32) -> Vec<Rect> {
         let Span { left, width } = frame.span(drawing, event);
         Rect { x: left, y, width, height: HEIGHT }
     };
-    drawing.events().map(rect).collect()
+    drawing.events().map(|event| (event, rect(event))).collect()
 }

@@ -4,7 +4,7 @@ use std::cmp::Reverse;
 
 use crate::drawn::Drawn;
 use crate::element::{element, Element};
-use crate::relations::look;
+use crate::relations::{look, Look};
 use crate::words::Words;
 
 use super::path::{head, path, without_head};
@@ -24,7 +24,7 @@ pub fn svg(picture: &Picture) -> Element {
     let cycle: Vec<String> = picture.cycle.iter().map(|&edge| drawing.words.of_edge(edge, false)).collect();
     let cycle = element("desc").text(&format!("The cycle: {}", cycle.join("; ")));
     let columns = columns.iter().enumerate().map(|(thread, rect)| column(picture, thread, rect));
-    let events = boxes.iter().enumerate().map(|(event, rect)| event_box(&drawing.words, event, rect));
+    let events = boxes.iter().map(|(&event, rect)| event_box(&drawing.words, event, rect));
     element("svg")
         .with("xmlns", "http://www.w3.org/2000/svg")
         .with("class", if height > TALL { "graph tall" } else { "graph" })
@@ -37,7 +37,7 @@ pub fn svg(picture: &Picture) -> Element {
 
 fn summary(picture: &Picture) -> String {
     let (starts, threads) = (picture.drawing.starts(), picture.drawing.threads());
-    let accesses = picture.drawing.events().len() - starts;
+    let accesses = picture.boxes.len() - starts;
     format!(
         "Execution graph: {accesses} accesses in {threads} columns, one for each thread, below {starts} \
          starting writes"
@@ -103,8 +103,8 @@ fn edges(picture: &Picture) -> Vec<Element> {
 
 fn edge(words: &Words, drawn: &Drawn, wire: &Wire) -> Element {
     let Drawn { edge, in_cycle, is_next } = *drawn;
-    let short = look(edge.relation).short;
-    let class = format!("edge {short}{}", if in_cycle { " cycle" } else { "" });
+    let Look { relation, short, .. } = *words.look(edge);
+    let class = format!("edge {}{}", look(relation).short, if in_cycle { " cycle" } else { "" });
     let mut way = without_head(&wire.points, in_cycle);
     if root_and_leaf(drawn).0 == edge.to {
         // Where edges share a line, their dashes fall on each other.

@@ -66,10 +66,13 @@ impl Wiring<'_> {
     }
 
     /// The way of each edge that is drawn.
-    pub fn wires(&self, boxes: &[Rect], turns: &Turns) -> Vec<Wire> {
+    pub fn wires(&self, boxes: &BTreeMap<usize, Rect>, turns: &Turns) -> Vec<Wire> {
         let straight = |edge: explain::Edge| {
-            let (x, top) = (boxes[edge.to].middle(), boxes[edge.to].y);
-            Wire { points: vec![(x, boxes[edge.from].bottom()), (x, top)], name: (x + BESIDE, top - GAP / 2) }
+            let (x, top) = (boxes[&edge.to].middle(), boxes[&edge.to].y);
+            Wire {
+                points: vec![(x, boxes[&edge.from].bottom()), (x, top)],
+                name: (x + BESIDE, top - GAP / 2),
+            }
         };
         let mut wires: Vec<Wire> = self.drawing.edges.iter().map(|drawn| straight(drawn.edge)).collect();
         for trunk in self.trunks {
@@ -82,7 +85,7 @@ impl Wiring<'_> {
 
     /// From the box to the lane, along it, and to the other box. The name stands beside the row of the end that is the
     /// edge's own.
-    fn wire(&self, trunk: &Trunk, at: usize, boxes: &[Rect], turns: &Turns) -> Wire {
+    fn wire(&self, trunk: &Trunk, at: usize, boxes: &BTreeMap<usize, Rect>, turns: &Turns) -> Wire {
         let drawn = &self.drawing.edges[at];
         let lane = self.frame.lane(trunk);
         let mut points = self.end(&Port::of(self.drawing, trunk, drawn.edge.from, true), boxes, turns);
@@ -92,14 +95,14 @@ impl Wiring<'_> {
         end.extend(turn(&end));
         points.extend(end.into_iter().rev());
         let (root, leaf) = root_and_leaf(drawn);
-        let is_above = boxes[root].y < boxes[leaf].y;
-        let y = if is_above { boxes[leaf].y - GAP / 2 } else { boxes[leaf].bottom() + GAP / 2 };
+        let is_above = boxes[&root].y < boxes[&leaf].y;
+        let y = if is_above { boxes[&leaf].y - GAP / 2 } else { boxes[&leaf].bottom() + GAP / 2 };
         Wire { points, name: (lane, y) }
     }
 
     /// The way from a port to where it turns to the lane.
-    fn end(&self, port: &Port, boxes: &[Rect], turns: &Turns) -> Vec<Point> {
-        let rect = &boxes[port.event];
+    fn end(&self, port: &Port, boxes: &BTreeMap<usize, Rect>, turns: &Turns) -> Vec<Point> {
+        let rect = &boxes[&port.event];
         let y = rect.y + self.ports.offset(port, rect.height);
         match port.side {
             Side::Left => vec![(rect.x, y)],

@@ -40,14 +40,16 @@ fn time_runs_downward_and_each_thread_has_its_column() {
     for reported in with_graph() {
         let drawing = Drawing::of(reported);
         let events = &reported.execution.as_ref().unwrap().events;
+        let threads: Vec<_> = reported.events_drawn().into_iter().map(|event| events[event].thread).collect();
         let starts = reported.source.locations.len();
-        let top = |event: usize| drawing.boxes[event].area.y[0];
-        for event in starts..events.len() {
-            let mut before = drawing.boxes[..event].iter();
-            assert!(before.all(|it| it.area.y[1] < top(event)), "{}: {event}", reported.name);
-            for other in starts..event {
-                let is_one = drawing.boxes[event].area.x == drawing.boxes[other].area.x;
-                assert_eq!(is_one, events[event].thread == events[other].thread, "{}", reported.name);
+        let top = |place: usize| drawing.boxes[place].area.y[0];
+        assert_eq!(threads.len(), drawing.boxes.len(), "{}", reported.name);
+        for place in starts..threads.len() {
+            let mut before = drawing.boxes[..place].iter();
+            assert!(before.all(|it| it.area.y[1] < top(place)), "{}: {place}", reported.name);
+            for other in starts..place {
+                let is_one = drawing.boxes[place].area.x == drawing.boxes[other].area.x;
+                assert_eq!(is_one, threads[place] == threads[other], "{}", reported.name);
             }
         }
     }

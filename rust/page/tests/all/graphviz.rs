@@ -37,6 +37,15 @@ fn the_graph_of_sb_is_this_one() {
     assert_eq!(lines.iter().filter(|line| line.starts_with("subgraph cluster_")).count(), 2);
 }
 
+#[test]
+fn a_fence_is_a_node_and_its_starting_write_none() {
+    let text = dot_of(named("fences.order"));
+    let lines: Vec<&str> = text.lines().map(str::trim).collect();
+    let start = |line: &str| lines.iter().filter(|it| it.starts_with(line)).count();
+    let node = r#"e6 [label="fence\nstep 4, line 8", style="solid", "#;
+    assert_eq!((start(node), start("e2 "), start(r#"e6 -> e7 [label="fo", "#)), (1, 0, 1), "{text}");
+}
+
 /// From, to, relation and whether it is bold, of an edge that is seen.
 fn edge_of(line: &str) -> Option<(String, String, String, bool)> {
     let (ends, rest) = line.trim().split_once(" [label=\"")?;

@@ -15,11 +15,15 @@ fn every_event_has_its_box_with_its_text() {
         let Reported { name, source, execution, .. } = reported;
         let execution = execution.as_ref().unwrap();
         let drawing = Drawing::of(reported);
-        assert_eq!(drawing.boxes.len(), execution.events.len(), "{name}");
-        for (place, (event, drawn)) in execution.events.iter().zip(&drawing.boxes).enumerate() {
+        assert_eq!(drawing.boxes.len(), reported.events_drawn().len(), "{name}");
+        for (place, drawn) in reported.events_drawn().into_iter().zip(&drawing.boxes) {
             assert_eq!(drawn.id, format!("event-{place}"), "{name}");
-            let location = &source.locations[event.location];
+            let event = &execution.events[place];
+            let location = source.locations.get(event.location).map_or("", String::as_str);
             let access = match event {
+                Event { kind: Kind::Update, read: Some(0), written: Some(0), .. } if location.is_empty() => {
+                    "fence".into()
+                }
                 Event { kind: Kind::Read, read: Some(read), .. } => format!("R {location} = {read}"),
                 Event { kind: Kind::Write, written: Some(written), .. } => {
                     format!("W {location} = {written}")
@@ -55,6 +59,24 @@ fn a_box_says_where_its_event_comes_from() {
             ),
         ]
     );
+}
+
+#[test]
+fn a_fence_is_shown_by_its_name_and_has_no_starting_write() {
+    let found = Drawing::of(named("fences.order")).boxes;
+    let found: Vec<_> = found.iter().map(|it| (it.access.as_str(), it.title.as_str())).collect();
+    assert_eq!(found[..2], [("W x = 0", "Starting write W x = 0"), ("W y = 0", "Starting write W y = 0")]);
+    assert_eq!(found[2], ("W x = 1", "Step 1 of thread 1, line 4 (x := 1): W x = 1"));
+    assert_eq!(found[5], ("fence", "Step 4 of thread 2, line 8 (fence): fence"));
+    assert_eq!(found[6], ("fence", "Step 5 of thread 3, line 10 (fence): fence"));
+    assert_eq!(found.len(), 8);
+    let page = page(named("fences.order"));
+    assert_eq!(
+        page.with_class("graph")[0].attribute("aria-label"),
+        "Execution graph: 6 accesses in 3 columns, one for each thread, below 2 starting writes"
+    );
+    let cells: Vec<String> = page.named("tr")[4].elements().map(Element::text).collect();
+    assert_eq!(cells, ["4", "2", "8", "fence", "fence"]);
 }
 
 #[test]

@@ -37,6 +37,17 @@ impl Reported {
         self.execution.as_ref().map(|execution| Graph { execution, cycle: &self.cycle })
     }
 
+    /// The starting write of the fences, which has no box.
+    pub fn start_of_fences(&self) -> Option<usize> {
+        self.source.program.has_fence().then_some(self.source.locations.len())
+    }
+
+    /// The events that have a box; none where there is no graph.
+    pub fn events_drawn(&self) -> Vec<usize> {
+        let events = 0..self.execution.as_ref().map_or(0, |execution| execution.events.len());
+        events.filter(|&event| Some(event) != self.start_of_fences()).collect()
+    }
+
     pub fn page<'a>(&'a self, words: &'a str) -> Page<'a> {
         let Reported { name, text, source, report, .. } = self;
         Page { name, text, source, report, graph: self.graph(), words }
@@ -95,10 +106,23 @@ fn sixteen() -> Reported {
     Reported::on("sixteen.order", &format!("values 2\nlocations {}\n{threads}", names.join(" ")))
 }
 
+/// Three threads, two of which have a fence on the cycle.
+fn fences() -> Reported {
+    let threads = "thread\n  x := 1\n  r0 := y\nthread\n  y := 1\n  fence\nthread\n  fence\n  r0 := x\n";
+    Reported::on("fences.order", &format!("values 2\nlocations x y\n{threads}"))
+}
+
 /// So many random programs that are not robust, of which the longest has some dozen steps.
 fn random(count: usize) -> Vec<Reported> {
     let mut numbers = Numbers::new(2019);
-    let shapes = [Shape::litmus(), Shape::winding(), Shape::racing(), Shape::looping(), Shape::wide()];
+    let shapes = [
+        Shape::litmus(),
+        Shape::winding(),
+        Shape::racing(),
+        Shape::looping(),
+        Shape::wide(),
+        Shape::fenced(),
+    ];
     let programs = (0..).map(|number| random::program(&mut numbers, &shapes[number % shapes.len()]));
     let reported = |(number, program): (usize, Program)| {
         let text = disassemble(&encode(&program)).unwrap();
@@ -107,12 +131,12 @@ fn random(count: usize) -> Vec<Reported> {
     programs.enumerate().map(reported).filter(|reported| reported.execution.is_some()).take(count).collect()
 }
 
-/// All that have a graph: the models, random programs, the crowd and sixteen locations.
+/// All that have a graph: the models, random programs, the crowd, sixteen locations and fences.
 pub fn with_graph() -> &'static [Reported] {
     static ALL: OnceLock<Vec<Reported>> = OnceLock::new();
     ALL.get_or_init(|| {
         let models = models().into_iter().filter(|model| model.execution.is_some());
-        models.chain(random(200)).chain([crowd(), sixteen()]).collect()
+        models.chain(random(240)).chain([crowd(), sixteen(), fences()]).collect()
     })
 }
 

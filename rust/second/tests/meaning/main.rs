@@ -5,7 +5,7 @@
 mod runs;
 
 use models::collection::{self, Verdict};
-use program::{read, Line, Program};
+use program::{read, Line, Operand, Program};
 use random::{program, Numbers, Shape};
 use second::{Access, Ending, Kind, Search, Situation, State, Step};
 
@@ -13,11 +13,15 @@ use second::{Access, Ending, Kind, Search, Situation, State, Step};
 const PLACES: usize = 100_000;
 
 /// Every op, reads and writes more often than the others.
-const MIXED: &[u8] = &[1, 2, 3, 4, 5, 5, 5, 5, 6, 6, 6, 6, 7, 7, 8, 8, 9, 10];
+const MIXED: &[u8] = &[1, 2, 3, 4, 5, 5, 5, 5, 6, 6, 6, 6, 7, 7, 8, 8, 9, 10, 11];
 
 /// Accesses only, none of which blocks: these are the least robust.
 const RACES: Shape =
     Shape { threads: 2..=2, locations: 2..=2, values: 2..=3, lines: 3..=5, ops: &[5, 5, 5, 6, 6, 6, 7, 8] };
+
+/// Plain accesses with fences between them.
+const FENCES: Shape =
+    Shape { threads: 2..=2, locations: 2..=2, values: 2..=3, lines: 3..=5, ops: &[5, 5, 5, 6, 6, 6, 11] };
 
 const THREES: Shape = Shape { threads: 3..=3, locations: 2..=2, values: 2..=3, lines: 2..=3, ops: MIXED };
 
@@ -39,6 +43,12 @@ fn tiny(seed: u64, count: usize, shape: Shape) -> impl Iterator<Item = Program> 
     })
 }
 
+/// A hundred of each shape, by seeds from this one on.
+fn of_each_shape(seed: u64) -> impl Iterator<Item = Program> {
+    let shapes = [RACES, THREES, TWOS, FENCES].into_iter().zip(seed..);
+    shapes.flat_map(|(shape, seed)| tiny(seed, 100, shape))
+}
+
 /// Whether the second checker finds the program robust.
 fn found_robust(program: &Program) -> bool {
     match Search::new(program, PLACES).ending {
@@ -48,15 +58,45 @@ fn found_robust(program: &Program) -> bool {
     }
 }
 
-#[test]
-fn robust_is_what_release_acquire_runs_say_without_loops() {
+/// How many of the programs are robust and how many are not, by all runs and by the second checker alike.
+fn robust_and_not(programs: impl Iterator<Item = Program>) -> (usize, usize) {
     let (mut robust, mut other) = (0, 0);
-    for program in tiny(1, 400, RACES).chain(tiny(2, 300, THREES)).chain(tiny(3, 300, TWOS)) {
+    for program in programs {
         let expected = runs::is_robust(&program, usize::MAX);
         assert_eq!(found_robust(&program), expected, "{program:?}");
         *(if expected { &mut robust } else { &mut other }) += 1;
     }
+    (robust, other)
+}
+
+#[test]
+fn robust_is_what_release_acquire_runs_say_without_loops() {
+    let programs = tiny(1, 400, RACES).chain(tiny(2, 300, THREES)).chain(tiny(3, 300, TWOS));
+    let (robust, other) = robust_and_not(programs);
     assert!(robust >= 400 && other >= 100, "{robust} robust, {other} not");
+}
+
+#[test]
+fn robust_is_what_release_acquire_runs_say_of_fences() {
+    let (robust, other) = robust_and_not(tiny(10, 400, FENCES).filter(Program::has_fence));
+    assert!(robust >= 200 && other >= 40, "{robust} robust, {other} not");
+}
+
+#[test]
+fn a_fence_is_an_update_of_a_location_that_lines_do_not_name() {
+    for program in tiny(11, 200, FENCES).filter(Program::has_fence) {
+        let mut spelled = program.clone();
+        spelled.locations += 1;
+        for line in spelled.threads.iter_mut().flatten().filter(|line| **line == Line::Fence) {
+            // As FADD of 0 on a location that holds nothing but 0, and no register changes.
+            let zero = Operand::Constant(0);
+            *line = Line::Bcas { location: program.locations, a: zero, b: zero };
+        }
+        let [fenced, updated] = [&program, &spelled].map(|program| runs::is_robust(program, usize::MAX));
+        assert_eq!(fenced, updated, "{program:?}");
+        let [fenced, updated] = [&program, &spelled].map(|program| Search::new(program, PLACES).places);
+        assert_eq!(fenced, updated, "{program:?}");
+    }
 }
 
 #[test]
@@ -103,7 +143,7 @@ fn numbered(program: &Program, length: usize) -> Vec<(Vec<Step>, Situation)> {
 #[test]
 fn situations_are_numbered_by_their_first_schedules() {
     let mut compared = 0;
-    for program in tiny(4, 100, RACES).chain(tiny(5, 100, THREES)).chain(tiny(6, 100, TWOS)) {
+    for program in of_each_shape(4) {
         let lines: usize = program.threads.iter().map(Vec::len).sum();
         if lines > 8 {
             continue;
@@ -166,7 +206,7 @@ fn shows_its_run(program: &Program, steps: &[Step]) {
 #[test]
 fn steps_show_the_accesses_of_their_run() {
     let mut steps = 0;
-    for program in tiny(7, 100, RACES).chain(tiny(8, 100, THREES)).chain(tiny(9, 100, TWOS)) {
+    for program in of_each_shape(20) {
         let search = Search::new(&program, PLACES);
         for number in 1..=search.places.len() {
             let run = search.steps_to(number);

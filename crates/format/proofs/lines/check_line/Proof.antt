@@ -1,6 +1,6 @@
 -- `format::lines::check_line` meets its contract. Check 3, and then what `check_fields` ensures of the fields.
 use Rattle.format.proofs.Turns.{record-fits, line-checked}
-use Rattle.format.specs.Inner.{checkOf}
+use Rattle.format.specs.Inner.{foundOf}
 use Rattle.program.specs.Format.{isRecord, readLine, markIN, sizeIN}
 use Rattle.program.specs.Outcome.{check}
 use borrow.Author.Tests.{not-true, not-false}
@@ -23,7 +23,7 @@ returns-2 c =
     rw (line-checked _ _ _ _ (stands (c .before .before)), ← c .before .fields-at .ensures) (c .check-fields .ensures)
 
 pub check-line-spec : {M : Type 1} → statement M
-unfolding readLine check checkOf
+unfolding readLine check foundOf
 check-line-spec =
     tie.close
     (tie.spec (λ c. search needs) (λ c κs. search needs)

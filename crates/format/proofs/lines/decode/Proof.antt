@@ -7,9 +7,9 @@ use Rattle.format.proofs.lines.decode.Statement.{statement}
 use Rattle.format.proofs.lines.decode.Tie as tie
 
 -- An op that no arm names.
-returns-10 : tie.Need-returns-10
+returns-11 : tie.Need-returns-11
 unfolding lineMeans sumOp
-returns-10 c =
+returns-11 c =
     let other = first-row _ (c .match .rest) in
     rw (other, c .before .before .operand-of .ensures, c .before .operand-of2 .ensures)
 
@@ -26,4 +26,5 @@ decode-spec =
     (λ c. rw (c .match .keys6, c .before .before .operand-of .ensures))
     (λ c. rw (c .match .keys7, c .before .before .operand-of .ensures, c .before .operand-of2 .ensures))
     (λ c. rw (c .match .keys8, c .before .before .operand-of .ensures))
-    (λ c. rw (c .match .keys9, c .before .before .operand-of .ensures, c .before .operand-of2 .ensures)) returns-10)
+    (λ c. rw (c .match .keys9, c .before .before .operand-of .ensures, c .before .operand-of2 .ensures))
+    (λ c. rw (c .match .keys10)) returns-11)

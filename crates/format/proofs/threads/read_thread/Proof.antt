@@ -30,11 +30,11 @@ fits c =
 
 returns-3 : tie.Need-returns-3
 returns-3 c =
-    let checked = c .before .before in
+    let checked = c .before .before .before in
     let there = checked .before .before .before in
     let a = at-start (there .before) .args in
     sym (thread-passed _ _ (now (a .bytes)) (a .at) (stands there) (checked .before .if2 .left) _ refl
-    (sym (checked .check-lines .ensures) ∙ c .enum-told .given .1))
+    (sym (checked .check-lines .ensures) ∙ c .before .lines .given .1))
 
 returns-4 : tie.Need-returns-4
 returns-4 c =
@@ -42,7 +42,7 @@ returns-4 c =
     let there = checked .before .before .before in
     let a = at-start (there .before) .args in
     sym (thread-failed _ _ (now (a .bytes)) (a .at) (stands there) (checked .before .if2 .left) _ refl
-    (sym (checked .check-lines .ensures) ∙ c .before .lines .given .1))
+    (sym (checked .check-lines .ensures) ∙ c .before .lines2 .given .1))
 
 pub read-thread-spec : {M : Type 1} → statement M
 unfolding readThread check threadOf
