@@ -127,7 +127,8 @@ enum {
 /* The verdicts. */
 enum {
     /* Robust: every release/acquire run of the program, of any length, ends in thread states and an execution graph
-       that some SC run reaches too. So its accesses may be weakened; its fences stay full fences. */
+       that some SC run reaches too; and the timestamp machine, by which the board's maker documents its cores, reaches
+       exactly the thread states that SC runs reach. So its accesses may be weakened; its fences stay full fences. */
     ORDER_RB = 0,
 
     /* Not robust: the trace has the steps of an SC run. They are a release/acquire run too, and there the named

@@ -34,7 +34,7 @@ update-is-update : (a : Action) (x u : ℕ) (w : Id) {v : ℕ} → a ≡ updates
 unfolding isUpdate eventOf
 update-is-update a x u w q = ap (λ b. isUpdate (some (eventOf b x u w))) q
 
-update-writes : (a : Action) {v : ℕ} → a ≡ updates v → writing a ≡ true
+pub update-writes : (a : Action) {v : ℕ} → a ≡ updates v → writing a ≡ true
 unfolding writing
 update-writes a q = ap writing q
 

@@ -23,6 +23,12 @@ writesTo (readE x u w) = none
 writesTo (writeE x v) = some x
 writesTo (updateE x u v w) = some x
 
+pub write-location : (v : Event) {x : ℕ} → writesTo v ≡ some x → locationOf v ≡ x
+unfolding writesTo locationOf
+write-location (readE y u w) h = absurd (let z : _≡_ {A = ℕ} 0 1 = cc in omega arith)
+write-location (writeE y v) h = cc
+write-location (updateE y u v w) h = cc
+
 -- The id a is that of a write to x.
 pub record WriteTo (g : Graph) (x : ℕ) (a : Id) : Type 0 where
   pub write : Event

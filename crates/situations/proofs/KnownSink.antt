@@ -6,8 +6,6 @@ use mathlib.Core.List.{List, [], _∷_, _++_, List·Memᴰ as Member, List·Mem�
 use mathlib.Core.List.{List·Memᴰ·append-cases, List·Memᴰ·eq-of-singleton, List·Memᴰ·not-nil}
 use mathlib.Core.Option.{some}
 use mathlib.Core.Logic.{_⊎_, inl, inr, ⊎-elim}
-use Prim.Native.Nat.{ℕ}
-use native.Mathlib.Omega.{arith}
 use Rattle.relations.specs.Closure.{edge, IsOrBefore, Reaches, Precedes}
 use Rattle.relations.proofs.Laws.{is-or-before-joins}
 use Rattle.relations.proofs.Sink.{before-sink, reach-sink}
@@ -21,18 +19,12 @@ use Rattle.model.specs.Order.{HappensBefore, ScEdge, happensBefore, modificatio
 use Rattle.model.proofs.Lookup.{reading-event, present-not-next}
 use Rattle.model.proofs.Growth.{Addition, in-order, newId, grown, upToPicked, member-old-or-new, precedes-old-or-new}
 use Rattle.model.proofs.Growth.{new-there, there-old-or-new, event-stays, picked-last, order-put-in}
-use Rattle.model.proofs.WellFormed.{WellFormed, writesTo, new-source, new-unlisted}
+use Rattle.model.proofs.WellFormed.{WellFormed, writesTo, write-location, new-source, new-unlisted}
 use Rattle.model.proofs.Sinks.{happens-sink, sc-sink, one-location}
 use Rattle.model.proofs.NewEdges.{thread-order-in-sc, own-before-new, picked-before-new, start-before-new}
 use Rattle.model.proofs.NewEdges.{in-thread-before-new}
 use Rattle.situations.proofs.StepLists.{is-access, access-is, start-listed, listed-start}
 use Rattle.situations.proofs.StepGrowth.{ownEvents}
-
-write-location : (v : Event) {x : ℕ} → writesTo v ≡ some x → locationOf v ≡ x
-unfolding writesTo locationOf
-write-location (readE y u w) h = absurd (let z : _≡_ {A = ℕ} 0 1 = cc in omega arith)
-write-location (writeE y v) h = cc
-write-location (updateE y u v w) h = cc
 
 -- An event reads, or it writes its location.
 reads-or-writes : (v : Event) → ((w : Id) × (sourceOf (some v) ≡ some w)) ⊎ (writesTo v ≡ some (locationOf v))

@@ -5,20 +5,22 @@ use native.Mathlib.Omega.{arith}
 use mathlib.Core.Path.{_≡_, refl, ap, subst, _∙_}
 use mathlib.Core.Option.{Option, none, some}
 use mathlib.Core.List.{List, [], _∷_}
-use Rattle.program.specs.Program.{constant, Line, write, read, wait, fence, Program, isFence, anyIs, fenceLocations, namedLocations}
+use Rattle.program.specs.Program.{constant, write, read, wait, fence, Program, isFence, anyIs, fenceLocations, namedLocations}
 use Rattle.program.specs.declared.Kind.the-variants.{Read, Write}
 use Rattle.program.specs.Outcome.{accepted}
 use Rattle.program.specs.Within.{Valid}
 use Rattle.program.specs.Spelling.{operandByte, spellLine, spellLines, spellThread, spellThreads, spell}
-use Rattle.robustness.specs.Robust.{Robust, NotRobust}
+use Rattle.robustness.specs.Robust.{NotRobust}
+use Rattle.machine.specs.Outcomes.{two, sb, mp, twoWrites}
 use Rattle.rules.specs.Situation.{Situation}
 use Rattle.rules.specs.declared.Ending.{Ending}
 use Rattle.rules.proofs.Searched.{searchedOn}
 use Rattle.numbering.specs.Numbering.{Entry}
 use Rattle.numbering.specs.Verdict.{Verdict, Outcome, found, full, closed}
 use Rattle.verdicts.specs.Search.{verdictOf}
+use Rattle.verdicts.specs.Promises.{RobustClaims}
 use Rattle.verdicts.proofs.Computed.{readOn, accepted-valid, by-search}
-use Rattle.verdicts.proofs.Promises.{closed-is-robust, found-is-not-robust}
+use Rattle.verdicts.proofs.Promises.{closed-keeps-claims, found-is-not-robust}
 
 module _ {p : Program} (valid : Valid p) (N : ℕ) where
   outcome-by-search : {o : Outcome (Entry Situation) Ending} → searchedOn p N .outcome ≡ o → verdictOf p N .outcome ≡ o
@@ -29,12 +31,6 @@ spelled-valid : (p : Program) → readOn (spell p) ≡ accepted p → Valid p
 unfolding readOn
 spelled-valid p e = accepted-valid (spell p) e
 
-abbrev two : (values : ℕ) → List Line → List Line → Program
-two K one other = record { threads = one ∷ other ∷ []; locations = 2; values = K }
-
-abbrev sb : Program
-sb = two 2 (write 0 (constant 1) ∷ read 0 1 ∷ []) (write 1 (constant 1) ∷ read 0 0 ∷ [])
-
 -- SB with a fence between the two lines of each thread: the fence's location is the third.
 abbrev sbFenced : Program
 sbFenced =
@@ -43,14 +39,6 @@ sbFenced =
       locations = 3;
       values = 2;
     }
-
-abbrev mp : Program
-mp = two 2 (write 0 (constant 1) ∷ write 1 (constant 1) ∷ []) (read 0 1 ∷ read 1 0 ∷ [])
-
-abbrev twoWrites : Program
-twoWrites =
-    two 3 (write 0 (constant 1) ∷ write 1 (constant 2) ∷ read 0 1 ∷ [])
-    (write 1 (constant 1) ∷ write 0 (constant 2) ∷ read 0 0 ∷ [])
 
 abbrev barrier : Program
 barrier = two 2 (write 0 (constant 1) ∷ wait 1 (constant 1) ∷ []) (write 1 (constant 1) ∷ wait 0 (constant 1) ∷ [])
@@ -76,15 +64,15 @@ valid-sb-fenced : Valid sbFenced
 valid-sb-fenced = spelled-valid sbFenced (unfold reads-back in refl)
 
 -- MP, the barrier and SB with fences are robust.
-pub mp-robust : Robust mp
-mp-robust = closed-is-robust valid-mp 13 (outcome-by-search valid-mp 13 (unfold searchedOn in refl))
+pub mp-robust : RobustClaims mp
+mp-robust = closed-keeps-claims valid-mp 13 (outcome-by-search valid-mp 13 (unfold searchedOn in refl))
 
-pub barrier-robust : Robust barrier
-barrier-robust = closed-is-robust valid-barrier 7 (outcome-by-search valid-barrier 7 (unfold searchedOn in refl))
+pub barrier-robust : RobustClaims barrier
+barrier-robust = closed-keeps-claims valid-barrier 7 (outcome-by-search valid-barrier 7 (unfold searchedOn in refl))
 
-pub sb-fenced-robust : Robust sbFenced
+pub sb-fenced-robust : RobustClaims sbFenced
 sb-fenced-robust =
-    closed-is-robust valid-sb-fenced 26 (outcome-by-search valid-sb-fenced 26 (unfold searchedOn in refl))
+    closed-keeps-claims valid-sb-fenced 26 (outcome-by-search valid-sb-fenced 26 (unfold searchedOn in refl))
 
 -- The schedule and the ending of what was found.
 unfoldable foundBy : Outcome (Entry Situation) Ending → Option (List ℕ × Ending)

@@ -8,6 +8,7 @@ pub mod AnswerLaws
 pub mod BySearch
 pub mod EveryCase
 pub mod Kept
+pub mod OnTheMachine
 pub mod CallAgain
 pub mod LongTrace
 pub mod Independence

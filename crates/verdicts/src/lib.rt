@@ -1,6 +1,6 @@
 // The numbering of a program's situations, the verdict, the reports by it, all that is promised of a report, and
 // document 01's cases: definitions, and the one type that code shares with them. Main results: verdict-by-search and
-// longer-schedules-decide-alike (SearchLaws), closed-is-robust and found-is-not-robust (Promises), found-is-earliest
+// longer-schedules-decide-alike (SearchLaws), closed-keeps-claims and found-is-not-robust (Promises), found-is-earliest
 // (Earliest), checked (Kept), wanted-gets-not-robust and shorter-wants-the-same (CallAgain), never-short (LongTrace),
 // every-case-holds (EveryCase).
 use rules::Ending;

@@ -7,7 +7,8 @@ use crate::kind::Kind;
 #[derive(Clone, Copy, Debug, PartialEq, Eq)]
 pub enum Report {
     /// RB: the program is robust. Every release/acquire run of it, of any length, ends in thread states and an
-    /// execution graph that some SC run reaches too. The trace is unchanged.
+    /// execution graph that some SC run reaches too; and the timestamp machine, by which the board's maker documents
+    /// its cores, reaches exactly the thread states that SC runs reach. The trace is unchanged.
     Robust {
         /// How many situations the program has; each has its place in the table.
         count: usize,
