@@ -1,5 +1,7 @@
 // The program bytes of document 01: the reader, and the line at a place of an accepted input.
 // The meaning is specs/Format.antt of the crate program; each contract is an equation with it.
+#![tactic(auto)]
+
 mod lines;
 mod threads;
 
@@ -20,7 +22,7 @@ const TH_SIZE: usize = 3;
 const IN_SIZE: usize = 7;
 
 // What a check says: passed, or the number of the check that failed.
-#[derive(Drop)]
+#[derive(Clone, Copy)]
 pub enum Check {
     Passed,
     Failed(u8),
@@ -29,7 +31,7 @@ pub enum Check {
 // An accepted input: T, the number of all locations that runs have (L, and one more where there is a fence), K, and for
 // each thread the byte at which its lines start and how many there are, 0 past the last thread. Its arrays are of short
 // numbers, as the search copies them often.
-#[derive(Drop)]
+#[derive(Clone, Copy)]
 pub struct Header {
     pub threads: usize,
     pub locations: usize,
@@ -39,20 +41,20 @@ pub struct Header {
 }
 
 // The answer of the reader: the header counts where the check passed, and is all 0 where it failed.
-#[derive(Drop)]
+#[derive(Clone, Copy)]
 pub struct Reading {
     pub check: Check,
     pub header: Header,
 }
 
-#[derive(Drop)]
+#[derive(Clone, Copy)]
 pub enum Operand {
     Constant(u8),
     Register(usize),
 }
 
 // A line, with the fields that it uses.
-#[derive(Drop)]
+#[derive(Clone, Copy)]
 pub enum Line {
     Sum {
         reg: usize,

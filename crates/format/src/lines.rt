@@ -13,7 +13,7 @@ use records::{
 };
 
 // What the checks of a line, or of several, find: whether a fence is there, or the check that failed.
-#[derive(Drop)]
+#[derive(Clone, Copy)]
 pub enum Found {
     Fenced(bool),
     Failed(u8),

@@ -11,7 +11,7 @@ use crate::{Check, IN_SIZE, PR_SIZE, Reading, TH_SIZE, no_header, refused};
 use records::is_record;
 
 // What reading a thread finds: its n and whether a fence is among its lines, or the check that failed.
-#[derive(Drop)]
+#[derive(Clone, Copy)]
 pub enum Thread {
     Lines { n: u8, fence: bool },
     Faulty(u8),

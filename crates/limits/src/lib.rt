@@ -1,4 +1,5 @@
 // The limits of documents 01 and 02, each in one place. specs/Limits.antt has a definition of the same meaning for each.
+#![tactic(auto)]
 
 // Threads of a program at most.
 pub const THREADS: usize = 8;

@@ -1,1 +1,2 @@
 // No code: laws on lists that the library lacks.
+#![tactic(auto)]

@@ -1,4 +1,6 @@
 // The checker for C and Rust: a static library of two functions. order_check.h is its C header.
+#![tactic(auto)]
+
 ghost use Rattle.std.specs.Prelude.{◌≡◌, length};
 ghost use Rattle.program.specs.Format.{read_program};
 ghost use Rattle.checker.specs.Indexed.{index_after};

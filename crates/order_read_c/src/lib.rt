@@ -1,4 +1,6 @@
 // The reader for C and Rust: a static library of two functions.
+#![tactic(auto)]
+
 ghost use Rattle.std.specs.Prelude.{◌≡◌};
 ghost use Rattle.program.specs.Format.{read_program};
 ghost use Rattle.format.specs.Answer.{reading, operand_means, line_means};
@@ -9,7 +11,7 @@ use format::{Check, Line, Operand};
 
 // The answer of order_read: the number of the failed check, or 0 and the program's header.
 #[repr(C)]
-#[derive(Drop)]
+#[derive(Clone, Copy)]
 pub struct HeaderAnswer {
     // 0 where the input is accepted, else the number of the first failed check, 1 to 9 or 12.
     pub number: usize,
@@ -24,7 +26,7 @@ pub struct HeaderAnswer {
 
 // An operand of a line: kind 0 where the line has none, 1 for a constant, 2 for a register.
 #[repr(C)]
-#[derive(Drop)]
+#[derive(Clone, Copy)]
 pub struct OperandAnswer {
     pub kind: usize,
     pub number: usize,
@@ -32,7 +34,7 @@ pub struct OperandAnswer {
 
 // The answer of order_line: the line's op and fields, and 0 in the fields that it does not use; op 0 where there is no such line.
 #[repr(C)]
-#[derive(Drop)]
+#[derive(Clone, Copy)]
 pub struct LineAnswer {
     pub op: usize,
     pub reg: usize,

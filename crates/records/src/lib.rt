@@ -1,5 +1,7 @@
 // The tests of one record, each an equation with its definition in specs/Format.antt of the crate program: its
 // mark, and the fields of a line. Which test comes first, and what number it has, is the reader's (crate format).
+#![tactic(auto)]
+
 ghost use Rattle.std.specs.Prelude.{◌≡◌, ◌+◌, ◌≤◌, length, drop};
 ghost use Rattle.program.specs.Ops.{is_op, op_at};
 ghost use Rattle.program.specs.Format.{starts_with, is_record, is_operand, when_used, zero_unless_used};
@@ -13,7 +15,7 @@ pub const FIRST_REGISTER: usize = 128;
 pub const FENCE: u8 = 11;
 
 // The fields of a line's record, as they stand in the bytes.
-#[derive(Drop)]
+#[derive(Clone, Copy)]
 pub struct Fields {
     pub op: u8,
     pub reg: u8,
@@ -22,7 +24,7 @@ pub struct Fields {
     pub b: u8,
 }
 
-#[derive(Drop)]
+#[derive(Clone, Copy)]
 pub enum Target {
     NoTarget,
     ToLocation,
@@ -30,7 +32,7 @@ pub enum Target {
 }
 
 // Which fields an op uses.
-#[derive(Drop)]
+#[derive(Clone, Copy)]
 pub struct Row {
     pub reg: bool,
     pub target: Target,

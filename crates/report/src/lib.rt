@@ -1,5 +1,7 @@
 // What is printed for a report, as bytes in a lent buffer: document 01, "The printing program".
 // The meaning is specs/Text.antt.
+#![tactic(auto)]
+
 mod lines;
 mod put;
 

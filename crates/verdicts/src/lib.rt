@@ -3,10 +3,12 @@
 // longer_schedules_decide_alike (SearchLaws), closed_keeps_claims and found_is_not_robust (Promises), found_is_earliest
 // (Earliest), checked (Kept), wanted_gets_not_robust and shorter_wants_the_same (CallAgain), never_short (LongTrace),
 // every_case_holds (EveryCase).
+#![tactic(auto)]
+
 use rules::Ending;
 
 // What the checker has to say of a program. The thread of an ending is numbered from 0; what is printed counts from 1.
-#[derive(Drop)]
+#[derive(Clone, Copy)]
 pub enum Report {
     Robust {
         count: usize,

@@ -10,36 +10,30 @@ use Prim.Native.Nat.{◌≤◌}
 use mathlib.Core.Bool.{true}
 use mathlib.Core.Path.{◌≡◌, sym, ◌∙◌}
 use lib.ListN.{length}
-use borrow.Author.Rules.{rules, zero≤}
+use borrow.Author.Rules.{rules}
+use Prim.Native.Nat.{zero-le}
 use Rattle.format.proofs.read.Statement.{statement}
 use Rattle.format.proofs.read.Tie as tie
 
 -- Past the first test the PR record stands there, and fits.
-stands : (c : tie.Else1)
-    → let bytes = c.before.before.before.before.args.bytes.now in is_record mark_pr size_pr bytes ≡ true
-stands c = sym c.before.is-record.ensures ∙ not-false _ c.if1.false
+stands : (c : tie.Else-not-is_record)
+    → let bytes = c.args.bytes.now in is_record mark_pr size_pr bytes ≡ true
+stands c = sym c.is_record.ensures ∙ c.if-not-is_record.false
 
-fits : (c : tie.Else1) → size_pr ≤ length c.before.before.before.before.args.bytes.now
-fits c = record_fits mark_pr _ 0 size_pr zero≤ (stands c)
+fits : (c : tie.Else-not-is_record) → size_pr ≤ length c.args.bytes.now
+fits c = record_fits mark_pr _ 0 size_pr zero-le (stands c)
 
-abbrev at_record : tie.After-are-in-range → tie.Else1
+abbrev at_record : tie.After-are_in_range → tie.Else-not-is_record
 at_record c = c.before.before.before.before
 
-read-threads-requires : tie.Need-read-threads-requires
+read-threads-requires : tie.Need-read_threads-requires
 read-threads-requires c κs = (
   fits (at_record c.before),
-  (in_range _ _ _ (sym c.before.are-in-range.ensures ∙ not-false _ c.if2.false)).few_threads,
+  (in_range _ _ _ (sym c.are_in_range.ensures ∙ c.if-not-are_in_range.false)).few_threads,
 )
 
 pub read_spec : {M : Type 1} → statement M
 unfolding read_program check reading
-read_spec =
-    tie.close
-    (tie.spec (λ c. search rules) (λ c κs. search rules) (λ c κs. search rules)
-    (λ c. rw (sym c.before.before.is-record.ensures ∙ not-true _ c.before.if1.true) c.refused.ensures)
-    (λ c. omega (arith, fits c.before)) (λ c. omega (arith, fits c.before.before))
-    (λ c. omega (arith, fits c.before.before.before)) (λ c κs. search rules) (λ c κs. search rules)
-    (λ c. rw (stands, sym c.before.before.are-in-range.ensures ∙ not-true _ c.before.if2.true)
-    c.refused2.ensures) read-threads-requires
-    (λ c. rw (stands, sym c.before.before.are-in-range.ensures ∙ not-false _ c.before.if2.false)
-    c.read-threads.ensures))
+read_spec = tie.close (tie.spec (λ c κs. search rules) (λ c κs. search rules) (λ c. rw (sym c.is_record.ensures ∙ c.if-not-is_record.true) c.refused.ensures) (λ c. omega (arith, fits c.before)) (λ c. omega (arith, fits c.before.before)) (λ c. omega (arith, fits c.before.before.before)) (λ c κs. search rules) (λ c κs. search rules) (λ c. rw (stands, sym c.are_in_range.ensures ∙ c.if-not-are_in_range.true)
+    c.refused-then-not-are_in_range.ensures) read-threads-requires (λ c. rw (stands, sym c.are_in_range.ensures ∙ c.if-not-are_in_range.false)
+    c.read_threads.ensures))

@@ -6,14 +6,9 @@ use borrow.Author.Rules.{rules}
 use Rattle.order_check_c.proofs.numbers_of.Statement.{statement}
 use Rattle.order_check_c.proofs.numbers_of.Tie as tie
 
-returns-2 : tie.Need-returns-2
-returns-2 c = ending_numbers_lem c.before.before.report2.given.1 c.numbers-of-ending.ensures
+returns-2 : tie.Need-returns-in-Ended
+returns-2 c = ending_numbers_lem c.in-Ended.is c.numbers_of_ending.ensures
 
 pub numbers_of_spec : {M : Type 1} → statement M
 unfolding numbers_of check_number
-numbers_of_spec =
-    tie.close
-    (tie.spec (λ c. search rules) (λ c. search rules) (λ c κs. search rules) (λ c. search rules) (λ c. search rules)
-    (λ c. search rules) (λ c. search rules) (λ c. rw c.before.report.given.1) returns-2
-    (λ c. rw c.before.report3.given.1) (λ c. rw c.before.report4.given.1)
-    (λ c. rw c.before.report5.given.1))
+numbers_of_spec = tie.close (tie.spec (λ c. search rules) (λ c. search rules) (λ c κs. search rules) (λ c. search rules) (λ c. search rules) (λ c. search rules) (λ c. search rules) (λ c. rw c.in-Robust.is) returns-2 (λ c. rw c.in-Full.is) (λ c. rw c.in-Short.is) (λ c. rw c.in-Refused.is))

@@ -5,13 +5,9 @@ use Rattle.order_check_c.proofs.numbers_of_ending.Statement.{statement}
 use Rattle.order_check_c.proofs.numbers_of_ending.Tie as tie
 
 returns : tie.Need-returns
-returns c =
-    let at = c.before in
-    let a = at.before.before.args in
-    witness_numbers a.count a.steps a.ending at.kind-number.ensures
+returns c = let at = c.before in
+    let a = at.args in
+    witness_numbers a.count a.steps a.ending at.kind_number.ensures
 
 pub numbers_of_ending_spec : {M : Type 1} → statement M
-numbers_of_ending_spec =
-    tie.close
-    (tie.spec (λ c. search rules) (λ c. search rules) (λ c κs. search rules) (λ c. search rules) (λ c. search rules)
-    returns)
+numbers_of_ending_spec = tie.close (tie.spec (λ c. search rules) (λ c. search rules) (λ c κs. search rules) (λ c. search rules) (λ c. search rules) returns)

@@ -6,7 +6,4 @@ use Rattle.order_read_c.proofs.failed.Tie as tie
 
 pub failed_spec : {M : Type 1} → statement M
 unfolding number_of
-failed_spec =
-    tie.close
-    (tie.spec (λ c. search rules) (λ c. search rules) (λ c. search rules) (λ c. rw c.enum_told.given.1)
-    (λ c. rw c.before.check.given.1))
+failed_spec = tie.close (tie.spec (λ c. search rules) (λ c. search rules) (λ c. search rules) (λ c. rw c.in-Passed.is) (λ c. rw c.in-Failed.is))

@@ -8,54 +8,23 @@ use Rattle.order_read_c.proofs.fields_of.Tie as tie
 
 pub fields_of_spec : {M : Type 1} → statement M
 unfolding line_fields line_means
-fields_of_spec =
-    tie.close
-    (tie.spec (λ c κs. search rules) (λ c. search rules) (λ c κs. search rules) (λ c κs. search rules)
-    (λ c κs. search rules) (λ c. search rules) (λ c κs. search rules) (λ c κs. search rules) (λ c κs. search rules)
-    (λ c. search rules) (λ c κs. search rules) (λ c κs. search rules) (λ c κs. search rules) (λ c. search rules)
-    (λ c. search rules) (λ c κs. search rules) (λ c κs. search rules) (λ c. search rules) (λ c κs. search rules)
-    (λ c κs. search rules) (λ c. search rules) (λ c κs. search rules) (λ c. search rules) (λ c κs. search rules)
-    (λ c κs. search rules) (λ c. search rules) (λ c κs. search rules) (λ c κs. search rules) (λ c κs. search rules)
-    (λ c. search rules) (λ c κs. search rules) (λ c κs. search rules) (λ c. search rules) (λ c κs. search rules)
-    (λ c κs. search rules) (λ c κs. search rules) (λ c. search rules) (λ c κs. search rules)
-    (λ c.
-    let b = c.before in
-    c.make-line.ensures ∙ rw
-    (b.before.before.before.line.given.1, b.before.operand-of.ensures, b.operand-of2.ensures))
-    (λ c.
-    let b = c.before in
-    c.make-line2.ensures ∙ rw
-    (b.before.before.before.line2.given.1, b.before.operand-of3.ensures, b.operand-of4.ensures))
-    (λ c.
-    let b = c.before in
-    c.make-line3.ensures ∙ rw
-    (b.before.before.before.line3.given.1, b.before.operand-of5.ensures, b.operand-of6.ensures))
-    (λ c.
-    let b = c.before.before in
-    c.make-line4.ensures ∙ rw
-    (b.before.line4.given.1, c.before.operand-of7.ensures, b.before.before.before.no_Operand.ensures))
-    (λ c.
-    let b = c.before.before in
-    c.make-line5.ensures ∙ rw
-    (b.before.line5.given.1, c.before.operand-of8.ensures, b.before.before.before.no_Operand.ensures))
-    (λ c.
-    let b = c.before in
-    c.make-line6.ensures ∙ rw (b.before.line6.given.1, b.before.before.before.no_Operand.ensures))
-    (λ c.
-    let b = c.before.before in
-    c.make-line7.ensures ∙ rw
-    (b.before.line7.given.1, c.before.operand-of9.ensures, b.before.before.before.no_Operand.ensures))
-    (λ c.
-    let b = c.before in
-    c.make-line8.ensures ∙ rw
-    (b.before.before.before.line8.given.1, b.before.operand-of10.ensures, b.operand-of11.ensures))
-    (λ c.
-    let b = c.before.before in
-    c.make-line9.ensures ∙ rw
-    (b.before.line9.given.1, c.before.operand-of12.ensures, b.before.before.before.no_Operand.ensures))
-    (λ c.
-    let b = c.before in
-    c.make-line10.ensures ∙ rw
-    (b.before.before.before.line10.given.1, b.before.operand-of13.ensures, b.operand-of14.ensures))
-    (λ c.
-    c.make-line11.ensures ∙ rw (c.before.enum_told.given.1, c.before.before.before.no_Operand.ensures)))
+fields_of_spec = tie.close (tie.spec (λ c κs. search rules) (λ c. search rules) (λ c κs. search rules) (λ c κs. search rules) (λ c κs. search rules) (λ c. search rules) (λ c κs. search rules) (λ c κs. search rules) (λ c κs. search rules) (λ c. search rules) (λ c κs. search rules) (λ c κs. search rules) (λ c κs. search rules) (λ c. search rules) (λ c. search rules) (λ c κs. search rules) (λ c κs. search rules) (λ c. search rules) (λ c κs. search rules) (λ c κs. search rules) (λ c. search rules) (λ c κs. search rules) (λ c. search rules) (λ c κs. search rules) (λ c κs. search rules) (λ c. search rules) (λ c κs. search rules) (λ c κs. search rules) (λ c κs. search rules) (λ c. search rules) (λ c κs. search rules) (λ c κs. search rules) (λ c. search rules) (λ c κs. search rules) (λ c κs. search rules) (λ c κs. search rules) (λ c. search rules) (λ c κs. search rules) (λ c. let b = c.before in
+    c.make_line.ensures ∙ rw
+    (b.in-Sum.is, b.operand_of.ensures, b.operand_of-in-Sum.ensures)) (λ c. let b = c.before in
+    c.make_line-in-Equal.ensures ∙ rw
+    (b.in-Equal.is, b.operand_of-in-Equal.ensures, b.operand_of-in-Equal-2.ensures)) (λ c. let b = c.before in
+    c.make_line-in-Less.ensures ∙ rw
+    (b.in-Less.is, b.operand_of-in-Less.ensures, b.operand_of-in-Less-2.ensures)) (λ c. let b = c.before.before in
+    c.make_line-in-Jump.ensures ∙ rw
+    (b.in-Jump.is, c.operand_of-in-Jump.ensures, b.no_operand-none.ensures)) (λ c. let b = c.before.before in
+    c.make_line-in-Write.ensures ∙ rw
+    (b.in-Write.is, c.operand_of-in-Write.ensures, b.no_operand-none.ensures)) (λ c. let b = c.before in
+    c.make_line-in-Read.ensures ∙ rw (b.in-Read.is, b.no_operand-none.ensures)) (λ c. let b = c.before.before in
+    c.make_line-in-Fadd.ensures ∙ rw
+    (b.in-Fadd.is, c.operand_of-in-Fadd.ensures, b.no_operand-none.ensures)) (λ c. let b = c.before in
+    c.make_line-in-Cas.ensures ∙ rw
+    (b.in-Cas.is, b.operand_of-in-Cas.ensures, b.operand_of-in-Cas-2.ensures)) (λ c. let b = c.before.before in
+    c.make_line-in-Wait.ensures ∙ rw
+    (b.in-Wait.is, c.operand_of-in-Wait.ensures, b.no_operand-none.ensures)) (λ c. let b = c.before in
+    c.make_line-in-Bcas.ensures ∙ rw
+    (b.in-Bcas.is, b.operand_of-in-Bcas.ensures, b.operand_of-in-Bcas-2.ensures)) (λ c. c.make_line-in-Fence.ensures ∙ rw (c.in-Fence.is, c.no_operand-none.ensures)))

@@ -7,7 +7,4 @@ use Rattle.order_read_c.proofs.operand_of.Tie as tie
 
 pub operand_of_spec : {M : Type 1} → statement M
 unfolding operand_answer operand_means
-operand_of_spec =
-    tie.close
-    (tie.spec (λ c. search rules) (λ c. search rules) (λ c. search rules) (λ c. rw c.before.x.given.1)
-    (λ c. rw c.before.x2.given.1))
+operand_of_spec = tie.close (tie.spec (λ c. search rules) (λ c. search rules) (λ c. search rules) (λ c. rw c.in-Constant.is) (λ c. rw c.in-Register.is))

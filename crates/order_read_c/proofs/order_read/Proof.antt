@@ -6,29 +6,25 @@ use borrow.Author.Rules.{rules}
 use Rattle.order_read_c.proofs.order_read.Statement.{statement}
 use Rattle.order_read_c.proofs.order_read.Tie as tie
 
-named_in_requires : tie.Need-named-in-requires
-named_in_requires c κs = ap (λ (x : Reading). x.check) c.before.read.ensures
+named_in_requires : tie.Need-named_in-named-requires
+named_in_requires c κs = ap (λ (x : Reading). x.check) c.read-reading.ensures
 
 returns : tie.Need-returns
-returns c =
-    let at_starts = c.before.before in
+returns c = let at_starts = c.before.before in
     let at_named = at_starts.before.before.before in
     let at_read = at_named.before.before in
-    let r = at_read.read in
+    let r = at_read.read-reading in
     let h = r.result.header in
     (λ i.
     record {
       number = c.failed.ensures i;
       threads = h.threads;
-      locations = at_named.named_in.ensures i;
+      locations = at_named.named_in-named.ensures i;
       values = h.values;
-      starts = at_starts.widened.ensures i;
-      counts = c.before.widened2.ensures i;
+      starts = at_starts.widened-starts.ensures i;
+      counts = c.widened-counts.ensures i;
     })
-    ∙ header_answered at_read.before.before.args.program.now r.result r.ensures
+    ∙ header_answered at_read.args.program.now r.result r.ensures
 
 pub order_read_spec : {M : Type 1} → statement M
-order_read_spec =
-    tie.close
-    (tie.spec (λ c κs. search rules) named_in_requires (λ c κs. search rules) (λ c κs. search rules)
-    (λ c κs. search rules) returns)
+order_read_spec = tie.close (tie.spec (λ c κs. search rules) named_in_requires (λ c κs. search rules) (λ c κs. search rules) (λ c κs. search rules) returns)

@@ -6,27 +6,22 @@ use borrow.Author.Rules.{rules}
 use Rattle.records.proofs.are_operands.Statement.{statement}
 use Rattle.records.proofs.are_operands.Tie as tie
 
-returns : tie.Need-returns
-returns c =
-    let s = c.before.before.before in
+returns : tie.Need-returns-then-not-when_used
+returns c = let s = c.before.before.before in
     sym (two_tests s.args.r s.args.f s.requires s.args.k ∙ rw (
-      ← c.before.before.is-operand.ensures,
-      (sym c.before.when-used.ensures ∙ not-true _ c.if1.true),
+      ← c.is_operand.ensures,
+      (sym c.when_used.ensures ∙ c.if-not-when_used.true),
     ))
 
-returns-2 : tie.Need-returns-2
-returns-2 c =
-    let s = c.before.before.before.before.before in
+returns-2 : tie.Need-returns
+returns-2 c = let s = c.before.before.before.before.before in
     sym (two_tests s.args.r s.args.f s.requires s.args.k ∙ rw (
-      ← c.before.before.before.before.is-operand.ensures,
+      ← c.is_operand.ensures,
       (sym
-          c.before.before.before.when-used.ensures ∙ not-false _ c.before.before.if1.false),
-      ← c.before.is-operand2.ensures,
-      ← c.when-used2.ensures,
+          c.when_used.ensures ∙ c.if-not-when_used.false),
+      ← c.is_operand-2.ensures,
+      ← c.when_used-2.ensures,
     ))
 
 pub are_operands_spec : {M : Type 1} → statement M
-are_operands_spec =
-    tie.close
-    (tie.spec (λ c κs. search rules) (λ c κs. search rules) returns (λ c κs. search rules) (λ c κs. search rules)
-    returns-2)
+are_operands_spec = tie.close (tie.spec (λ c κs. search rules) (λ c κs. search rules) returns (λ c κs. search rules) (λ c κs. search rules) returns-2)

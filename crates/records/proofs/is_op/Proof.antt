@@ -6,4 +6,4 @@ use Rattle.records.proofs.is_op.Tie as tie
 
 pub is_op_spec : {M : Type 1} → statement M
 unfolding is_op op_table
-is_op_spec = tie.close (tie.spec (λ c. rw (lt-leb _ _ c.if1.true)) (λ c. rw (le-leb _ _ c.if1.false)))
+is_op_spec = tie.close (tie.spec (λ c. rw (lt-leb _ _ c.if-op-lt1.true)) (λ c. rw (le-leb _ _ c.if-op-lt1.false)))

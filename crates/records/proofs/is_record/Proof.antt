@@ -6,16 +6,14 @@ use borrow.Author.Rules.{rules}
 use Rattle.records.proofs.is_record.Statement.{statement}
 use Rattle.records.proofs.is_record.Tie as tie
 
-returns : tie.Need-returns
-returns c =
-    let a = c.before.before.before.args in
-    sym (too_short a.mark.now a.bytes.now a.at a.size c.if1.true)
+returns : tie.Need-returns-then-bytes-at
+returns c = let a = c.args in
+    sym (too_short a.mark.now a.bytes.now a.at a.size c.if-bytes-at.true)
 
-returns-2 : tie.Need-returns-2
-returns-2 c =
-    let a = c.before.before.before.before.args in
-    c.is-marked.ensures ∙ sym (fits_if_marked a.mark.now a.bytes.now a.at a.size
-    c.before.if1.false)
+returns-2 : tie.Need-returns
+returns-2 c = let a = c.args in
+    c.is_marked.ensures ∙ sym (fits_if_marked a.mark.now a.bytes.now a.at a.size
+    c.if-bytes-at.false)
 
 pub is_record_spec : {M : Type 1} → statement M
 is_record_spec = tie.close (tie.spec (λ c. search rules) returns (λ c κs. search rules) returns-2)

@@ -6,4 +6,4 @@ use Rattle.records.proofs.leaves_room.Tie as tie
 
 pub leaves_room_spec : {M : Type 1} → statement M
 unfolding leaves_room
-leaves_room_spec = tie.close (tie.spec (λ c κs. search rules) (λ c. c.when-used.ensures))
+leaves_room_spec = tie.close (tie.spec (λ c κs. search rules) (λ c. c.when_used.ensures))

@@ -5,4 +5,4 @@ use Rattle.records.proofs.when_used.Tie as tie
 
 pub when_used_spec : {M : Type 1} → statement M
 unfolding when_used
-when_used_spec = tie.close (tie.spec (λ c. rw c.if1.true) (λ c. rw c.if1.false))
+when_used_spec = tie.close (tie.spec (λ c. rw c.if-used.true) (λ c. rw c.if-used.false))

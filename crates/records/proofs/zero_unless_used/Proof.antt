@@ -5,4 +5,4 @@ use Rattle.records.proofs.zero_unless_used.Tie as tie
 
 pub zero_unless_used_spec : {M : Type 1} → statement M
 unfolding zero_unless_used
-zero_unless_used_spec = tie.close (tie.spec (λ c. rw c.if1.true) (λ c. rw c.if1.false))
+zero_unless_used_spec = tie.close (tie.spec (λ c. rw c.if-used.true) (λ c. rw c.if-used.false))

@@ -12,20 +12,14 @@ use Rattle.format.proofs.lines.check_line.Statement.{statement}
 use Rattle.format.proofs.lines.check_line.Tie as tie
 
 -- Past the test the IN record stands at the cursor.
-stands : (c : tie.Else1)
-    → let a = c.before.before.before.before.args in
+stands : (c : tie.Else-not-is_record)
+    → let a = c.args in
     is_record mark_in size_in (drop a.at a.bytes.now) ≡ true
-stands c = sym c.before.is-record.ensures ∙ not-false _ c.if1.false
+stands c = sym c.is_record.ensures ∙ c.if-not-is_record.false
 
-returns-2 : tie.Need-returns-2
-returns-2 c =
-    rw (line_checked _ _ _ _ (stands c.before.before), ← c.before.fields_at.ensures) c.check-fields.ensures
+returns-2 : tie.Need-returns
+returns-2 c = rw (line_checked _ _ _ _ (stands c.before.before), ← c.fields_at.ensures) c.check_fields.ensures
 
 pub check_line_spec : {M : Type 1} → statement M
 unfolding read_line check found_of
-check_line_spec =
-    tie.close
-    (tie.spec (λ c. search rules) (λ c κs. search rules)
-    (λ c. rw (sym c.before.is-record.ensures ∙ not-true _ c.if1.true))
-    (λ c κs. record_fits mark_in _ _ size_in c.before.before.before.before.requires (stands c)) (λ c κs. search rules)
-    returns-2)
+check_line_spec = tie.close (tie.spec (λ c κs. search rules) (λ c. rw (sym c.is_record.ensures ∙ c.if-not-is_record.true)) (λ c κs. record_fits mark_in _ _ size_in c.requires (stands c)) (λ c κs. search rules) returns-2)

@@ -14,42 +14,32 @@ use borrow.Author.Rules.{rules}
 use Rattle.format.proofs.threads.read_thread.Statement.{statement}
 use Rattle.format.proofs.threads.read_thread.Tie as tie
 
-abbrev at_start : tie.After-is-record → tie.Start
-at_start c = c.before.before.before
+abbrev at_start : tie.After-is_record → tie.Start
+at_start c = c.before.before.before.before
 
 -- Past the first test the TH record stands at the cursor, and fits.
-stands : (c : tie.Else1)
+stands : (c : tie.Else-not-is_record)
     → let a = (at_start c.before).args in is_record mark_th size_th (drop a.at a.bytes.now) ≡ true
-stands c = sym c.before.is-record.ensures ∙ not-false _ c.if1.false
+stands c = sym c.is_record.ensures ∙ c.if-not-is_record.false
 
-fits : (c : tie.Else1) → let a = (at_start c.before).args in a.at + size_th ≤ length a.bytes.now
-fits c =
-    let start = at_start c.before in
-    record_fits mark_th start.args.bytes.now start.args.at size_th start.pre (stands c)
+fits : (c : tie.Else-not-is_record) → let a = (at_start c.before).args in a.at + size_th ≤ length a.bytes.now
+fits c = let start = at_start c.before in
+    record_fits mark_th start.args.bytes.now start.args.at size_th start.requires (stands c)
 
-returns-3 : tie.Need-returns-3
-returns-3 c =
-    let checked = c.before.before.before in
+returns-3 : tie.Need-returns-in-Fenced
+returns-3 c = let checked = c.before in
     let there = checked.before.before.before in
     let a = (at_start there.before).args in
-    sym (thread_passed _ _ a.bytes.now a.at (stands there) checked.before.if2.false _ refl
-    (sym checked.check-lines.ensures ∙ c.before.lines.given.1))
+    sym (thread_passed _ _ a.bytes.now a.at (stands there) checked.if-n-gt-LINES.false _ refl
+    (sym checked.check_lines-lines.ensures ∙ c.in-Fenced.is))
 
-returns-4 : tie.Need-returns-4
-returns-4 c =
-    let checked = c.before.before.before in
+returns-4 : tie.Need-returns-in-Failed
+returns-4 c = let checked = c.before in
     let there = checked.before.before.before in
     let a = (at_start there.before).args in
-    sym (thread_failed _ _ a.bytes.now a.at (stands there) checked.before.if2.false _ refl
-    (sym checked.check-lines.ensures ∙ c.before.lines2.given.1))
+    sym (thread_failed _ _ a.bytes.now a.at (stands there) checked.if-n-gt-LINES.false _ refl
+    (sym checked.check_lines-lines.ensures ∙ c.in-Failed.is))
 
 pub read_thread_spec : {M : Type 1} → statement M
 unfolding read_thread check thread_of
-read_thread_spec =
-    tie.close
-    (tie.spec (λ c. search rules) (λ c κs. search rules)
-    (λ c. rw (sym c.before.is-record.ensures ∙ not-true _ c.if1.true)) (λ c. omega (arith, fits c))
-    (λ c. omega (arith, fits c.before))
-    (λ c. omega (arith, c.shared-slice-known2.given ((at_start c.before.before).args.at + 2)))
-    (λ c. rw (stands, get_or-drop, lt-leb _ _ c.if2.true)) (λ c. omega (arith, fits c.before.before))
-    (λ c κs. omega (arith, fits c.before.before)) (λ c. search rules) (λ c. search rules) returns-3 returns-4)
+read_thread_spec = tie.close (tie.spec (λ c κs. search rules) (λ c. rw (sym c.is_record.ensures ∙ c.if-not-is_record.true)) (λ c. omega (arith, fits c)) (λ c. omega (arith, fits c.before)) (λ c. omega (arith, c.shared_slice_known-2-1.given ((at_start c.before.before).args.at + 2))) (λ c. rw (stands, get_or-drop, lt-leb _ _ c.if-n-gt-LINES.true)) (λ c. omega (arith, fits c.before.before)) (λ c κs. omega (arith, fits c.before.before)) (λ c. search rules) (λ c. search rules) returns-3 returns-4)

@@ -5,16 +5,12 @@ use Rattle.report.proofs.lines.put_run.Statement.{statement}
 use Rattle.report.proofs.lines.put_run.Tie as tie
 
 returns : tie.Need-returns
-returns c =
-    let fourth = c.before.before in
+returns c = let fourth = c.before.before in
     let third = fourth.before.before.before.before in
     let second = third.before.before.before.before in
     let first = second.before.before.before.before in
-    put_then (put_then (put_then first.put-bytes.ensures second.put-field.ensures) third.put-field2.ensures)
-    fourth.put-field3.ensures
+    put_then (put_then (put_then first.put_bytes-next.ensures second.put_field-next.ensures) third.put_field-next-2.ensures)
+    fourth.put_field.ensures
 
 pub put_run_spec : {M : Type 1} → statement M
-put_run_spec =
-    tie.close
-    (tie.spec (λ c. search rules) (λ c κs. search rules) (λ c κs. search rules) (λ c κs. search rules)
-    (λ c κs. search rules) (λ c. search rules) returns)
+put_run_spec = tie.close (tie.spec (λ c κs. search rules) (λ c κs. search rules) (λ c κs. search rules) (λ c κs. search rules) (λ c. search rules) returns)

@@ -28,8 +28,7 @@ pub +put_decimal_spec : {M : Type 1} → statement M
 +put_decimal_spec =
     close μ_put_decimal λ t. lts.spec (byte.Asked, byte.Learnt, below t, self.Post) (given t) self.Post
     (λ c. search rules) (λ c. search rules) (λ c κs. search rules) (λ c. search rules)
-    (λ c. put_as (decimal_of_digit _ (omega arith)) c.before.before.put_byte.ensures) (λ c κs. (omega arith, tt))
+    (λ c. put_as (decimal_of_digit _ (omega arith)) c.put_byte.ensures) (λ c κs. (omega arith, tt))
     (λ c. search rules) (λ c. search rules) (λ c κs. search rules) (λ c. search rules)
-    (λ c. let second = c.before.before in
-    let first = second.before.before.before.before in
-    put_as (decimal_of_more _ (omega arith)) (put_then first.put-decimal.ensures second.put-byte2.ensures))
+    (λ c.
+    put_as (decimal_of_more _ (omega arith)) (put_then c.put_decimal-next.ensures c.put_byte-2.ensures))
