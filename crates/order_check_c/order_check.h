@@ -2,9 +2,9 @@
  * The order checker for C: does a small concurrent program behave on a release/acquire machine exactly as on a
  * sequentially consistent (SC) one?
  *
- * `rt staticlib order_check_c` proves it and makes target/staticlib/liborder_check_c.a, for x86-64 Linux:
+ * `rt lib` in crates/order_check_c proves it and makes out/liborder_check_c.a there, for x86-64 Linux:
  *
- *     cc -Icrates/order_check_c caller.c target/staticlib/liborder_check_c.a
+ *     cc -Icrates/order_check_c caller.c crates/order_check_c/out/liborder_check_c.a
  *
  * Installed by ./install, with PREFIX/lib/pkgconfig in PKG_CONFIG_PATH where pkg-config does not look by itself:
  *

@@ -1,9 +1,9 @@
 /*
  * The reader of the order checker for C: are these bytes a program, and what are its lines?
  *
- * `rt staticlib order_read_c` proves it and makes target/staticlib/liborder_read_c.a, for x86-64 Linux:
+ * `rt lib` in crates/order_read_c proves it and makes out/liborder_read_c.a there, for x86-64 Linux:
  *
- *     cc caller.c target/staticlib/liborder_read_c.a
+ *     cc -Icrates/order_read_c caller.c crates/order_read_c/out/liborder_read_c.a
  *
  * docs/FORMAT.md lists the checks by their numbers.
  */

@@ -1,11 +1,10 @@
 -- The text of the report on all of standard input is whole, and its bytes are bytes of the buffer.
-use Prim.Native.Nat.{ℕ, ◌≤◌, ◌<◌, min}
+use Prim.Native.Nat.{ℕ, ◌≤◌, min}
 use native.Mathlib.Omega.{arith}
 use mathlib.Core.Path.{◌≡◌, ap, sym, subst, ◌∙◌}
-use mathlib.Core.List.{List, ◌++◌}
+use mathlib.Core.List.{List}
 use lib.ListN.{length, take, drop, length-append, length-take, length-drop}
 use lib.Seq.{length-take-le, take_at, take_all}
-use Rattle.io.specs.Counts.{IsPrefixLen}
 use Rattle.program.specs.Program.{Program}
 use Rattle.program.specs.Outcome.{Outcome}
 use Rattle.program.specs.Format.{read_program}
@@ -14,7 +13,7 @@ use Rattle.verdicts.specs.declared.Report.{Report}
 use Rattle.report.specs.Text.{text_of, longest_text, laid}
 use Rattle.verdicts.specs.Checked.{Checked}
 use Rattle.verdicts.proofs.LongTrace.{never_short}
-use Rattle.order_check.specs.Printed.{Sizes, Printed, PrintedFor}
+use Rattle.order_check.specs.Printed.{Sizes, PrintedFor}
 
 -- A text that fits is laid whole.
 module _ (text buffer : List ℕ) {after : List ℕ} {count : ℕ} (fits : length text ≤ length buffer)
@@ -29,7 +28,7 @@ module _ (text buffer : List ℕ) {after : List ℕ} {count : ℕ} (fits : lengt
       (omega (arith, length-take (length buffer) text, all_counted))
       ∙ take_all (length buffer) text fits
 
-  text_counted : IsPrefixLen count after
+  text_counted : (count ≤ length after) × (count ≡ length (take count after))
   text_counted =
       let within : count ≤ length after =
       omega (
@@ -56,7 +55,8 @@ module _ (buffer : List ℕ) {kept : ℕ} (lent_table table lent_trace trace out
   pub printed : {after : List ℕ} {count : ℕ} → length trace ≡ length lent_trace
       → (count ≡ min (length (text_of r trace)) (length out))
       × ((length (text_of r trace) ≤ longest_text (length trace)) × (after ≡ laid (text_of r trace) out))
-      → PrintedFor buffer kept lent_table table lent_trace trace (take count after) × IsPrefixLen count after
+      → PrintedFor buffer kept lent_table table lent_trace trace (take count after)
+      × ((count ≤ length after) × (count ≡ length (take count after)))
   printed {after} {count} same (counted, (short, is)) =
       let fits : length (text_of r trace) ≤ length out = omega (arith, short, sizes.text_fits, same) in (
         λ input front.

@@ -1,5 +1,5 @@
 -- What is printed: document 01, "The printing program", with document 02, Points 1 and 2.
-use Rattle.std.specs.Prelude.{ℕ, ◌+◌, ◌*◌, ◌≤◌, ◌<◌, ◌≡◌, List, length, take}
+use Rattle.std.specs.Prelude.{ℕ, ◌+◌, ◌*◌, ◌≤◌, ◌<◌, ◌≡◌, List, length, take, Option, IfSome}
 use Rattle.limits.specs.Limits.{max_threads, max_lines}
 use Rattle.program.specs.Format.{read_program, size_pr, size_th, size_in}
 use Rattle.verdicts.specs.declared.Report.TheVariants.{Short}
@@ -36,3 +36,7 @@ pub record Printed (input lent_table table lent_trace trace text : List ℕ) : T
 abbrev pub PrintedFor : (buffer : List ℕ) (kept : ℕ) (lent_table table lent_trace trace text : List ℕ) → Type 0
 PrintedFor buffer kept lent_table table lent_trace trace text =
     (input : List ℕ) → take (length buffer) input ≡ take kept buffer → Printed input lent_table table lent_trace trace text
+
+-- These bytes are the front of a known input: all of it, where it is no longer than so many bytes.
+abbrev pub IsFront : (known : Option (List ℕ)) (kept : List ℕ) (most : ℕ) → Type 0
+IsFront known kept most = IfSome known (λ input. take most input ≡ kept)

@@ -1,12 +1,18 @@
 // The printing program: reads a program's bytes from standard input and writes the report's text to standard output.
-ghost use Rattle.std.specs.Prelude.{◌≡◌, ◌≤◌, length, take};
-ghost use Rattle.io.specs.Counts.{IsPrefixLen};
-ghost use Rattle.order_check.specs.Printed.{Sizes, PrintedFor};
+#![tactic(auto)]
+
+ghost use Rattle.std.specs.Prelude.{◌≡◌, ◌≤◌, ◌<◌, length, take, IfOk};
+ghost use Rattle.std.specs.Io.KnownBytes.{Consumes, IsAtEnd};
+ghost use Rattle.order_check.specs.Printed.{Sizes, PrintedFor, IsFront};
 
 use checker::check_indexed;
-use libc::{STDERR_FILENO, STDIN_FILENO, STDOUT_FILENO};
 use program::STEP_SIZE;
 use report::text;
+use std::io::{ErrorKind, Read, Result, Write, copy, sink};
+use std::process::ExitCode;
+
+// What is kept of standard input: more than the longest program, of 3,613 bytes.
+const INPUT: usize = 4096;
 
 // "a table of 49,152 bytes"
 const TABLE: usize = 49152;
@@ -20,11 +26,10 @@ const INDEX: usize = 4096;
 // Room for the longest text: a line of at most 76 bytes, and one of at most 17 for each step that the trace can have.
 const TEXT: usize = 76 + 17 * (TRACE / STEP_SIZE);
 
-// What was kept of standard input, and whether its end was reached.
-#[derive(Drop)]
-pub struct Input {
-    pub ended: bool,
-    pub kept: usize,
+fn input_buffer() -> [u8; INPUT]
+    ensures { 4096 ≡ length result }
+{
+    [0; INPUT]
 }
 
 fn table() -> [u8; TABLE]
@@ -51,42 +56,43 @@ fn text_buffer() -> [u8; TEXT]
     [0; TEXT]
 }
 
-// Reads on and keeps nothing: what `read` answered.
-fn skip_some() -> isize {
-    let mut rest = io::buffer();
-    libc::read(STDIN_FILENO, &mut rest)
-}
-
-// One read of standard input, into the buffer behind the bytes that are kept while it has room: what `read` answered.
-fn read_on(buffer: &mut [u8], kept: usize) -> isize
-    requires { kept ≤ length buffer.old }
+// Reads until the buffer is full or the input ends, which one read tells; how many bytes were read. Nothing says that an
+// input ends, so the turns are counted, to a number that no run uses up.
+fn fill<R: Read>(reader: &mut R, buffer: &mut [u8]) -> Result<usize>
+    ensures bound { IfOk result (λ kept. kept ≤ length buffer.new) }
+    ensures bytes { IfOk result (λ kept.
+        Consumes (R.remaining reader.old) (R.remaining reader.new) (take kept buffer.new)) }
+    ensures end { IfOk result (λ kept. kept < length buffer.new → IsAtEnd (R.remaining reader.new)) }
 {
-    if kept < buffer.len() {
-        return libc::read(STDIN_FILENO, &mut buffer[kept..]);
-    }
-    skip_some()
-}
-
-// Reads standard input to its end, which one read tells, and keeps its front; a read that fails is no end. Nothing says
-// that an input ends, so the turns are counted down from a number that no run uses up.
-fn read_input(buffer: &mut [u8]) -> Input
-    ensures { result.kept ≤ length buffer.new }
-{
-    let mut kept: usize = 0;
-    let mut turns = u64::MAX;
-    while turns > 0 {
-        let got = read_on(buffer, kept);
-        if got <= 0 {
-            return Input {
-                ended: got == 0,
-                kept,
-            };
+    let mut kept = 0;
+    for _ in 0..u64::MAX {
+        if kept == buffer.len() {
+            return Ok(kept);
         }
-        let more = io::count(got, &buffer[kept..]);
-        kept = kept + more;
-        turns = turns - 1;
+        match reader.read(&mut buffer[kept..]) {
+            Ok(0) => return Ok(kept),
+            Ok(more) => kept += more,
+            Err(error) => {
+                if error.kind() != ErrorKind::Interrupted {
+                    return Err(error);
+                }
+            }
+        }
     }
-    Input { ended: false, kept }
+    Err(ErrorKind::TimedOut.into())
+}
+
+// Reads the input to its end and keeps its front; how many bytes were kept.
+fn read_input<R: Read>(reader: &mut R, buffer: &mut [u8]) -> Result<usize>
+    ensures bound { IfOk result (λ kept. kept ≤ length buffer.new) }
+    ensures front { IfOk result (λ kept. IsFront (R.remaining reader.old) (take kept buffer.new) (length buffer.new)) }
+    ensures end { IfOk result (λ kept. IsAtEnd (R.remaining reader.new)) }
+{
+    let kept = fill(reader, buffer)?;
+    if kept == buffer.len() {
+        copy(reader, &mut sink())?;
+    }
+    Ok(kept)
 }
 
 // Checks the program that was kept and lays the report's text in the buffer; how many bytes of it are text.
@@ -101,38 +107,33 @@ fn print(
     requires { Sizes (length input.now) kept (length places.old) (length trace.old) (length buffer.old) }
     ensures printed { PrintedFor input.now kept places.old places.new
         trace.old trace.new (take result buffer.new) }
-    ensures counts { IsPrefixLen result buffer.new }
+    ensures counts { (result ≤ length buffer.new) × (result ≡ length (take result buffer.new)) }
 {
-    let report = check_indexed(&input[0..kept], places, trace, slots);
+    let report = check_indexed(&input[..kept], places, trace, slots);
     text(report, trace, buffer)
 }
 
-fn main() {
-    let mut input = io::buffer();
-    let read = read_input(&mut input);
-    if !read.ended {
-        io::write_all(
-            STDERR_FILENO,
-            b"order_check: standard input can't be read to its end\n",
-        );
-        return;
-    }
+fn main(rt: HostRuntime) -> ExitCode {
+    let mut input = input_buffer();
+    let Ok(kept) = read_input(&mut rt.stdin(), &mut input) else {
+        let _ = eprintln!(rt; "order_check: standard input can't be read to its end");
+        return ExitCode::FAILURE;
+    };
     let mut places = table();
     let mut trace = trace_buffer();
     let mut slots = index();
     let mut lines = text_buffer();
     let length = print(
         &input,
-        read.kept,
+        kept,
         &mut places,
         &mut trace,
         &mut slots,
         &mut lines,
     );
-    if !io::write_all(STDOUT_FILENO, &lines[..length]) {
-        io::write_all(
-            STDERR_FILENO,
-            b"order_check: standard output can't be written\n",
-        );
+    if rt.stdout().write_all(&lines[..length]).is_err() {
+        let _ = eprintln!(rt; "order_check: standard output can't be written");
+        return ExitCode::FAILURE;
     }
+    ExitCode::SUCCESS
 }

@@ -14,7 +14,7 @@ pub const TABLE: usize = 49_152;
 /// What it reports of the program bytes, or why there is no report.
 pub fn report(program: &[u8]) -> Result<(Report, Vec<Step>), String> {
     let output = run(&path(), program).map_err(|error| format!("{}: {error}", name()))?;
-    // It has no exit status of its own: only its text tells whether all went well.
+    // Its status is 0 for every report, so only its text tells which.
     std::str::from_utf8(&output)
         .ok()
         .and_then(report_in)

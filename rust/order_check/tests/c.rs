@@ -68,7 +68,7 @@ fn the_line_of_the_header_compiles_a_caller() {
     let here = Path::new(env!("CARGO_MANIFEST_DIR"));
     let arguments = line.split(' ').map(|argument| match argument {
         "caller.c" => here.join("tests/caller.c"),
-        "target/staticlib/liborder_check_c.a" => PathBuf::from(env!("ORDER_CHECK_ARCHIVE")),
+        "crates/order_check_c/out/liborder_check_c.a" => PathBuf::from(env!("ORDER_CHECK_ARCHIVE")),
         _ => PathBuf::from(argument),
     });
     let program = Path::new(env!("CARGO_TARGET_TMPDIR")).join("by-line");

@@ -23,6 +23,7 @@ fn a_failed_read_is_no_end() {
         let said = run(Stdio::from(input), Stdio::piped());
         assert_eq!(said.stdout, b"");
         assert_eq!(said.stderr, b"order_check: standard input can't be read to its end\n");
+        assert_eq!(said.status.code(), Some(1));
     }
 }
 
@@ -35,5 +36,6 @@ fn a_failed_write_is_told() {
     let right = run(Stdio::from(File::open(&path).unwrap()), Stdio::piped());
     std::fs::remove_file(&path).unwrap();
     assert_eq!(said.stderr, b"order_check: standard output can't be written\n");
+    assert_eq!((said.status.code(), right.status.code()), (Some(1), Some(0)));
     assert_eq!((right.stdout.as_slice(), right.stderr.as_slice()), (b"RB 1\n".as_slice(), b"".as_slice()));
 }

@@ -7,7 +7,8 @@ use std::process::Command;
 #[test]
 fn a_program_in_c_reads_programs() {
     let here = Path::new(env!("CARGO_MANIFEST_DIR"));
-    let archives = env::var_os("ORDER_STATICLIB").map_or(here.join("../../target/staticlib"), PathBuf::from);
+    let archives =
+        env::var_os("ORDER_STATICLIB").map_or(here.join("../../crates/order_read_c/out"), PathBuf::from);
     let caller = Path::new(env!("CARGO_TARGET_TMPDIR")).join("reader_caller");
     let compiled = Command::new("cc")
         .args(["-std=c99", "-Wall", "-Wextra", "-pedantic", "-Werror", "-I"])

@@ -1,14 +1,15 @@
 //! The script `./order`: what it builds, and what it hands on. It stands here in a tree of its own, with stand-ins for
 //! the tools that build.
 
+use std::env;
 use std::fs::{self, File};
 use std::os::unix::fs::{symlink, PermissionsExt};
 use std::path::{Path, PathBuf};
-use std::process::Command;
+use std::process::{self, Command};
 use std::thread::sleep;
 use std::time::{Duration, SystemTime};
 
-use crate::user::{checker, ends, ends_quietly, finish, folder, SB, SB_LINES};
+use crate::user::{checker, ends, ends_quietly, finish, SB, SB_LINES};
 
 /// What the script uses of the system, beside what builds.
 const TOOLS: [&str; 17] = [
@@ -19,18 +20,36 @@ const TOOLS: [&str; 17] = [
 /// Longer than the clock of any file system stands still.
 const TICK: Duration = Duration::from_millis(100);
 
-/// A tree with the script, and with all that it builds unless `bare`.
+/// An `rt` that only writes down what it is asked for, and for which crate.
+const CALLED: &str = "echo \"$* ${PWD##*/}\" >> ../../calls";
+
+/// A tree with the script, and with all that it builds unless `bare`. It stands outside the repository, in which `rt ci`
+/// takes one `crates.txt` only, and goes with its test.
 struct Tree {
     root: PathBuf,
 }
 
+impl Drop for Tree {
+    fn drop(&mut self) {
+        let _ = fs::remove_dir_all(&self.root);
+    }
+}
+
 impl Tree {
     fn new(test: &str, bare: bool) -> Tree {
-        let tree = Tree { root: folder(test) };
+        let tree = Tree { root: env::temp_dir().join(format!("order-script-{}-{test}", process::id())) };
+        fs::create_dir_all(&tree.root).unwrap();
         let script = Path::new(env!("CARGO_MANIFEST_DIR")).join("../../order");
         fs::copy(script, tree.root.join("order")).unwrap();
         fs::write(tree.root.join("sb"), SB).unwrap();
-        for source in ["crates/a", "crates.txt", "rust/Cargo.toml", "tools/none"] {
+        for source in [
+            "crates/a",
+            "crates.txt",
+            "crates/order_check/src/main.rt",
+            "crates/order_check_c/src/lib.rt",
+            "rust/Cargo.toml",
+            "tools/none",
+        ] {
             tree.write(source, "");
         }
         for tool in TOOLS {
@@ -42,8 +61,8 @@ impl Tree {
                 .unwrap();
         }
         if !bare {
-            tree.copy(&checker(), "target/bin/order_check");
-            tree.write("target/staticlib/liborder_check_c.a", "");
+            tree.copy(&checker(), "crates/order_check/out/order_check");
+            tree.write("crates/order_check_c/out/liborder_check_c.a", "");
             tree.copy(Path::new(env!("CARGO_BIN_EXE_order")), "rust/target/release/order");
             tree.write("rust/target/release/order_asm", "");
             for stamp in ["checker", "library", "command"] {
@@ -150,18 +169,18 @@ fn what_is_missing_is_built_crate_by_crate() {
     tree.write("crates.txt", "# NAME: what it stands on\na:\nb:\norder_check: a\norder_check_c:\n");
     tree.copy(&checker(), "made/order_check");
     tree.copy(Path::new(env!("CARGO_BIN_EXE_order")), "made/order");
-    let rt = "cat; case $1 in
-        check) echo 'rt: a proved (3 s)'; mkdir -p target/bin; cp made/order_check target/bin/;;
-        staticlib) echo 'rt: b proved (0 s)'; mkdir -p target/staticlib; echo > target/staticlib/liborder_check_c.a;;
-      esac; echo noise; echo noise >&2";
+    let rt = "cat; mkdir -p out; case $1 in
+        run) echo 'crate a: modules loaded=0 checked=33'; cp ../../made/order_check out/;;
+        lib) echo 'crate b: modules loaded=33 checked=0'; echo > out/liborder_check_c.a;;
+      esac; echo 'logic=proved functions=1'; echo noise; echo noise >&2";
     tree.tool("rt", rt);
     tree.tool("cargo", "cat; mkdir -p rust/target/release; cp made/order rust/target/release/; echo > rust/target/release/order_asm; echo noise");
     let said = ends(&finish(&mut tree.shell("./order - < sb"), b""), 10, SB_LINES);
     let lines = [
         "proving and building the checker",
-        "  1 of 2: a proved in 3 s",
+        "  1 of at most 2: a proved in ",
         "building the library",
-        "  1 of 1: b proved in 0 s",
+        "  1 of at most 1: b proved in ",
     ];
     for line in lines {
         assert!(said.contains(&format!("order: {line}")), "{said}");
@@ -173,8 +192,7 @@ fn what_is_missing_is_built_crate_by_crate() {
 fn a_build_that_fails_or_is_broken_off_does_not_count() {
     let tree = Tree::new("fails", false);
     tree.change("crates/a");
-    for reason in ["echo 'the reason'; exit 3", "touch target/bin/order_check; echo 'the reason'; kill -9 $$"]
-    {
+    for reason in ["echo 'the reason'; exit 3", "touch out/order_check; echo 'the reason'; kill -9 $$"] {
         tree.tool("rt", reason);
         for _ in 0..2 {
             let said = ends(&finish(&mut tree.shell("./order sb"), b""), 1, "");
@@ -192,14 +210,14 @@ fn what_changes_while_it_is_built_is_built_again() {
     tree.change("crates/a");
     tree.tool(
         "rt",
-        "case $1 in check) sleep 0.1; echo changed > crates/a;; esac; sleep 0.1; echo \"$@\" >> calls",
+        "case $1 in run) sleep 0.1; echo changed > ../a;; esac; sleep 0.1; echo \"$* ${PWD##*/}\" >> ../../calls",
     );
     ends(&finish(&mut tree.shell("./order sb"), b""), 10, SB_LINES);
-    tree.tool("rt", "echo \"$@\" >> calls");
+    tree.tool("rt", CALLED);
     ends(&finish(&mut tree.shell("./order sb"), b""), 10, SB_LINES);
     ends_quietly(&finish(&mut tree.shell("./order sb"), b""), 10, SB_LINES);
     let calls = fs::read_to_string(tree.root.join("calls")).unwrap();
-    assert_eq!(calls, "check order_check\nstaticlib order_check_c\ncheck order_check\n");
+    assert_eq!(calls, "run order_check\nlib order_check_c\nrun order_check\n");
 }
 
 #[test]
@@ -219,18 +237,18 @@ fn what_can_not_be_looked_at_counts_as_changed() {
     let tree = Tree::new("unseen", false);
     fs::remove_file(tree.root.join("tools/find")).unwrap();
     tree.tool("find", "exit 1");
-    tree.tool("rt", "echo \"$@\" >> calls");
+    tree.tool("rt", CALLED);
     tree.tool("cargo", "echo cargo >> calls");
     ends(&finish(&mut tree.shell("./order sb"), b""), 10, SB_LINES);
     let calls = fs::read_to_string(tree.root.join("calls")).unwrap();
-    assert_eq!(calls, "check order_check\nstaticlib order_check_c\ncargo\n");
+    assert_eq!(calls, "run order_check\nlib order_check_c\ncargo\n");
     // A source that was put there with an older time.
     let tree = Tree::new("older", false);
-    tree.tool("rt", "echo \"$@\" >> calls");
+    tree.tool("rt", CALLED);
     ends_quietly(&finish(&mut tree.shell("./order sb"), b""), 10, SB_LINES);
     sleep(TICK);
     let source = File::options().write(true).open(tree.root.join("crates/a")).unwrap();
     source.set_modified(SystemTime::UNIX_EPOCH).unwrap();
     ends(&finish(&mut tree.shell("./order sb"), b""), 10, SB_LINES);
-    assert!(fs::read_to_string(tree.root.join("calls")).unwrap().starts_with("check order_check\n"));
+    assert!(fs::read_to_string(tree.root.join("calls")).unwrap().starts_with("run order_check\n"));
 }

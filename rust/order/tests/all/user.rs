@@ -24,7 +24,7 @@ pub fn order() -> Command {
 
 /// The printing program.
 pub fn checker() -> PathBuf {
-    let made = Path::new(env!("CARGO_MANIFEST_DIR")).join("../../target/bin/order_check");
+    let made = Path::new(env!("CARGO_MANIFEST_DIR")).join("../../crates/order_check/out/order_check");
     env::var_os("ORDER_CHECK").map_or(made, PathBuf::from)
 }
 
