@@ -176,14 +176,13 @@ fn what_is_missing_is_built_crate_by_crate() {
     tree.tool("rt", rt);
     tree.tool("cargo", "cat; mkdir -p rust/target/release; cp made/order rust/target/release/; echo > rust/target/release/order_asm; echo noise");
     let said = ends(&finish(&mut tree.shell("./order - < sb"), b""), 10, SB_LINES);
-    let lines = [
-        "proving and building the checker",
-        "  1 of at most 2: a proved in ",
-        "building the library",
-        "  1 of at most 1: b proved in ",
-    ];
-    for line in lines {
+    for line in ["proving and building the checker", "building the library"] {
         assert!(said.contains(&format!("order: {line}")), "{said}");
+    }
+    for line in ["1 of at most 2: a proved in ", "1 of at most 1: b proved in "] {
+        let (_, rest) = said.split_once(&format!("order:   {line}")).expect(&said);
+        let time = rest.lines().next().and_then(|time| time.strip_suffix(" s"));
+        assert!(time.is_some_and(|seconds| seconds.parse::<u32>().is_ok()), "{said}");
     }
     ends_quietly(&finish(&mut tree.shell("./order sb"), b""), 10, SB_LINES);
 }
