@@ -56,8 +56,8 @@ fn text_buffer() -> [u8; TEXT]
     [0; TEXT]
 }
 
-// Reads until the buffer is full or the input ends, which one read tells; how many bytes were read. Nothing says that an
-// input ends, so the turns are counted, to a number that no run uses up.
+// Reads until the buffer is full or the input ends, which one read tells; how many bytes were read. Nothing says that
+// an input ends, so the turns are counted, to a number that no run uses up.
 fn fill<R: Read>(reader: &mut R, buffer: &mut [u8]) -> Result<usize>
     ensures bound { IfOk result (λ kept. kept ≤ length buffer.new) }
     ensures bytes { IfOk result (λ kept.

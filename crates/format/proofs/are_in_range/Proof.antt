@@ -8,4 +8,8 @@ use Rattle.format.proofs.are_in_range.Tie as tie
 
 pub are_in_range_spec : {M : Type 1} → statement M
 unfolding are_in_range
-are_in_range_spec = tie.close (tie.spec (λ c. search (lt-leb, arith)) (λ c. rw (le-leb _ _ c.if-t-lt1.false, lt-leb c.args.t max_threads (omega arith))) (λ c. search (le-leb, lt-leb, arith)) (λ c. search (le-leb, lt-leb, arith)) (λ c. search (le-leb, lt-leb, arith)) (λ c. search (le-leb, lt-leb, arith)))
+are_in_range_spec = tie.close
+    (tie.spec (λ c. search (lt-leb, arith))
+    (λ c. rw (le-leb _ _ c.if-t-lt1.false, lt-leb c.args.t max_threads (omega arith)))
+    (λ c. search (le-leb, lt-leb, arith)) (λ c. search (le-leb, lt-leb, arith)) (λ c. search (le-leb, lt-leb, arith))
+    (λ c. search (le-leb, lt-leb, arith)))

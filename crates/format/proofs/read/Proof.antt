@@ -34,6 +34,12 @@ read-threads-requires c κs = (
 
 pub read_spec : {M : Type 1} → statement M
 unfolding read_program check reading
-read_spec = tie.close (tie.spec (λ c κs. search rules) (λ c κs. search rules) (λ c. rw (sym c.is_record.ensures ∙ c.if-not-is_record.true) c.refused.ensures) (λ c. omega (arith, fits c.before)) (λ c. omega (arith, fits c.before.before)) (λ c. omega (arith, fits c.before.before.before)) (λ c κs. search rules) (λ c κs. search rules) (λ c. rw (stands, sym c.are_in_range.ensures ∙ c.if-not-are_in_range.true)
-    c.refused-then-not-are_in_range.ensures) read-threads-requires (λ c. rw (stands, sym c.are_in_range.ensures ∙ c.if-not-are_in_range.false)
+read_spec = tie.close
+    (tie.spec (λ c κs. search rules) (λ c κs. search rules)
+    (λ c. rw (sym c.is_record.ensures ∙ c.if-not-is_record.true) c.refused.ensures)
+    (λ c. omega (arith, fits c.before)) (λ c. omega (arith, fits c.before.before))
+    (λ c. omega (arith, fits c.before.before.before)) (λ c κs. search rules) (λ c κs. search rules)
+    (λ c. rw (stands, sym c.are_in_range.ensures ∙ c.if-not-are_in_range.true)
+    c.refused-then-not-are_in_range.ensures) read-threads-requires
+    (λ c. rw (stands, sym c.are_in_range.ensures ∙ c.if-not-are_in_range.false)
     c.read_threads.ensures))

@@ -1,5 +1,6 @@
 -- What one read gives stands behind what was read before.
-use Rattle.std.proofs.Common.{◌≡◌, ℕ, ◌+◌, ◌-◌, ◌≤◌, List, ◌++◌, rules, arith, length, take, slice_range, sym, ap, ◌∙◌, subst, le_refl, drop_at, length-take-le}
+use Rattle.std.proofs.Common.{◌≡◌, ℕ, ◌+◌, ◌-◌, ◌≤◌, List, ◌++◌, length, take, slice_range}
+use Rattle.std.proofs.Common.{rules, arith, sym, ap, ◌∙◌, subst, le_refl, drop_at, length-take-le}
 use Rattle.std.proofs.lemmas.Slice.{take-put_mid_below}
 use Rattle.std.specs.Io.KnownBytes.{Consumes}
 use Rattle.std.proofs.KnownBytes.{Consumes-trans, Consumes-kept}
@@ -8,12 +9,16 @@ use lib.Seq.{take-add, take-append-le}
 use Rattle.order_check.proofs.fill.Goals.{in-Ok, in-Err+else-ne}
 use Rattle.order_check.proofs.fill.Goals as goal
 
-take_split : (a b : ℕ) (old new : List ℕ) → a ≤ b → take a new ≡ take a old → take a old ++ slice_range new a b ≡ take b new
+-- What was kept, and what stands behind it now, is the front of what stands there now.
+take_split : (a b : ℕ) (old new : List ℕ) → a ≤ b → take a new ≡ take a old
+    → take a old ++ slice_range new a b ≡ take b new
 take_split a b old new h front =
     let same : a + (b - a) ≡ b = omega arith in
     ap (λ l. l ++ slice_range new a b) (sym front) ∙ sym (take-add a (b - a) new) ∙ ap (λ n. take n new) same
 
-range_put : (a k n : ℕ) (xs ys : List ℕ) → a ≤ length xs → n ≤ length ys → slice_range (put_mid a k xs ys) a (a + n) ≡ take n ys
+-- Of a part that was put in from a place on, the front stands there.
+range_put : (a k n : ℕ) (xs ys : List ℕ) → a ≤ length xs → n ≤ length ys
+    → slice_range (put_mid a k xs ys) a (a + n) ≡ take n ys
 range_put a k n xs ys within fits =
     let same : (a + n) - a ≡ n = omega arith in
     let after = post_of a k xs in
@@ -28,7 +33,8 @@ loop-preserved g c =
     let within = c.loop.invariant.0 in
     let after = put_mid from room c.loop.buffer c.read.new.buf in
     let front : take from after ≡ take from c.loop.buffer = take-put_mid_below _ _ _ _ _ (le_refl _) within in
-    let Kept : ℕ → Type 0 = λ k. (k ≤ length after) × Consumes (g.R.Read.remaining c.args.reader.now) (g.R.Read.remaining c.read.new.self) (take k after) in
+    let Kept : ℕ → Type 0 = λ k. (k ≤ length after) × Consumes (g.R.Read.remaining c.args.reader.now)
+    (g.R.Read.remaining c.read.new.self) (take k after) in
     elim c.match-read.branch [
       | in-Ok w ↦
           let n = w.in-Ok.more in
@@ -37,7 +43,8 @@ loop-preserved g c =
           let joined = take_split from (from + n) c.loop.buffer after (omega arith) front in
           subst Kept (sym w.kept-is) (
             search rules,
-            subst (Consumes _ _) (ap (λ l. take from c.loop.buffer ++ l) (sym part) ∙ joined) (Consumes-trans _ _ _ _ _ c.loop.invariant.1 read.bytes.0),
+            subst (Consumes _ _) (ap (λ l. take from c.loop.buffer ++ l) (sym part) ∙ joined)
+                (Consumes-trans _ _ _ _ _ c.loop.invariant.1 read.bytes.0),
           )
       | in-Err+else-ne w ↦
           subst Kept (sym w.kept-is) (

@@ -11,4 +11,7 @@ returns-2 c = ending_numbers_lem c.in-Ended.is c.numbers_of_ending.ensures
 
 pub numbers_of_spec : {M : Type 1} → statement M
 unfolding numbers_of check_number
-numbers_of_spec = tie.close (tie.spec (λ c. search rules) (λ c. search rules) (λ c κs. search rules) (λ c. search rules) (λ c. search rules) (λ c. search rules) (λ c. search rules) (λ c. rw c.in-Robust.is) returns-2 (λ c. rw c.in-Full.is) (λ c. rw c.in-Short.is) (λ c. rw c.in-Refused.is))
+numbers_of_spec = tie.close
+    (tie.spec (λ c. search rules) (λ c. search rules) (λ c κs. search rules) (λ c. search rules) (λ c. search rules)
+    (λ c. search rules) (λ c. search rules) (λ c. rw c.in-Robust.is) returns-2 (λ c. rw c.in-Full.is)
+    (λ c. rw c.in-Short.is) (λ c. rw c.in-Refused.is))

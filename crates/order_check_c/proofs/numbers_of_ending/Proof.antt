@@ -10,4 +10,6 @@ returns c = let at = c.before in
     witness_numbers a.count a.steps a.ending at.kind_number.ensures
 
 pub numbers_of_ending_spec : {M : Type 1} → statement M
-numbers_of_ending_spec = tie.close (tie.spec (λ c. search rules) (λ c. search rules) (λ c κs. search rules) (λ c. search rules) (λ c. search rules) returns)
+numbers_of_ending_spec = tie.close
+    (tie.spec (λ c. search rules) (λ c. search rules) (λ c κs. search rules) (λ c. search rules) (λ c. search rules)
+    returns)

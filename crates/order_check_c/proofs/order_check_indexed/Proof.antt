@@ -5,4 +5,6 @@ use Rattle.order_check_c.proofs.order_check_indexed.Statement.{statement}
 use Rattle.order_check_c.proofs.order_check_indexed.Tie as tie
 
 pub order_check_indexed_spec : {M : Type 1} → statement M
-order_check_indexed_spec = tie.close (tie.spec (λ c κs. search rules) (λ c κs. search rules) (λ c. search rules) (λ c. search rules) (λ c. search rules) (λ c. search (rules, all_told)))
+order_check_indexed_spec = tie.close
+    (tie.spec (λ c κs. search rules) (λ c κs. search rules) (λ c. search rules) (λ c. search rules)
+    (λ c. search rules) (λ c. search (rules, all_told)))

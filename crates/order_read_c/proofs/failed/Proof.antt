@@ -6,4 +6,6 @@ use Rattle.order_read_c.proofs.failed.Tie as tie
 
 pub failed_spec : {M : Type 1} → statement M
 unfolding number_of
-failed_spec = tie.close (tie.spec (λ c. search rules) (λ c. search rules) (λ c. search rules) (λ c. rw c.in-Passed.is) (λ c. rw c.in-Failed.is))
+failed_spec = tie.close
+    (tie.spec (λ c. search rules) (λ c. search rules) (λ c. search rules) (λ c. rw c.in-Passed.is)
+    (λ c. rw c.in-Failed.is))

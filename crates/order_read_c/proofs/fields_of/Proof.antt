@@ -8,7 +8,15 @@ use Rattle.order_read_c.proofs.fields_of.Tie as tie
 
 pub fields_of_spec : {M : Type 1} → statement M
 unfolding line_fields line_means
-fields_of_spec = tie.close (tie.spec (λ c κs. search rules) (λ c. search rules) (λ c κs. search rules) (λ c κs. search rules) (λ c κs. search rules) (λ c. search rules) (λ c κs. search rules) (λ c κs. search rules) (λ c κs. search rules) (λ c. search rules) (λ c κs. search rules) (λ c κs. search rules) (λ c κs. search rules) (λ c. search rules) (λ c. search rules) (λ c κs. search rules) (λ c κs. search rules) (λ c. search rules) (λ c κs. search rules) (λ c κs. search rules) (λ c. search rules) (λ c κs. search rules) (λ c. search rules) (λ c κs. search rules) (λ c κs. search rules) (λ c. search rules) (λ c κs. search rules) (λ c κs. search rules) (λ c κs. search rules) (λ c. search rules) (λ c κs. search rules) (λ c κs. search rules) (λ c. search rules) (λ c κs. search rules) (λ c κs. search rules) (λ c κs. search rules) (λ c. search rules) (λ c κs. search rules) (λ c. let b = c.before in
+fields_of_spec = tie.close
+    (tie.spec (λ c κs. search rules) (λ c. search rules) (λ c κs. search rules) (λ c κs. search rules)
+    (λ c κs. search rules) (λ c. search rules) (λ c κs. search rules) (λ c κs. search rules) (λ c κs. search rules)
+    (λ c. search rules) (λ c κs. search rules) (λ c κs. search rules) (λ c κs. search rules) (λ c. search rules)
+    (λ c. search rules) (λ c κs. search rules) (λ c κs. search rules) (λ c. search rules) (λ c κs. search rules)
+    (λ c κs. search rules) (λ c. search rules) (λ c κs. search rules) (λ c. search rules) (λ c κs. search rules)
+    (λ c κs. search rules) (λ c. search rules) (λ c κs. search rules) (λ c κs. search rules) (λ c κs. search rules)
+    (λ c. search rules) (λ c κs. search rules) (λ c κs. search rules) (λ c. search rules) (λ c κs. search rules)
+    (λ c κs. search rules) (λ c κs. search rules) (λ c. search rules) (λ c κs. search rules) (λ c. let b = c.before in
     c.make_line.ensures ∙ rw
     (b.in-Sum.is, b.operand_of.ensures, b.operand_of-in-Sum.ensures)) (λ c. let b = c.before in
     c.make_line-in-Equal.ensures ∙ rw
@@ -27,4 +35,5 @@ fields_of_spec = tie.close (tie.spec (λ c κs. search rules) (λ c. search rule
     c.make_line-in-Wait.ensures ∙ rw
     (b.in-Wait.is, c.operand_of-in-Wait.ensures, b.no_operand-none.ensures)) (λ c. let b = c.before in
     c.make_line-in-Bcas.ensures ∙ rw
-    (b.in-Bcas.is, b.operand_of-in-Bcas.ensures, b.operand_of-in-Bcas-2.ensures)) (λ c. c.make_line-in-Fence.ensures ∙ rw (c.in-Fence.is, c.no_operand-none.ensures)))
+    (b.in-Bcas.is, b.operand_of-in-Bcas.ensures, b.operand_of-in-Bcas-2.ensures))
+    (λ c. c.make_line-in-Fence.ensures ∙ rw (c.in-Fence.is, c.no_operand-none.ensures)))

@@ -18,4 +18,7 @@ stands c = let start = c.before in
     named_stands start.args.program.now (sym start.requires ∙ c.in-Passed.is)
 
 pub named_in_spec : {M : Type 1} → statement M
-named_in_spec = tie.close (tie.spec (λ c. search rules) (λ c. omega (arith, (stands c.before).0)) (λ c. omega (arith, c.shared_slice_known-1.given 3)) (λ c. search rules) (λ c. (stands c.before).1) (λ c. none_named _ (sym c.requires ∙ c.in-Failed.is)))
+named_in_spec = tie.close
+    (tie.spec (λ c. search rules) (λ c. omega (arith, (stands c.before).0))
+    (λ c. omega (arith, c.shared_slice_known-1.given 3)) (λ c. search rules) (λ c. (stands c.before).1)
+    (λ c. none_named _ (sym c.requires ∙ c.in-Failed.is)))

@@ -7,4 +7,6 @@ use Rattle.order_read_c.proofs.operand_of.Tie as tie
 
 pub operand_of_spec : {M : Type 1} → statement M
 unfolding operand_answer operand_means
-operand_of_spec = tie.close (tie.spec (λ c. search rules) (λ c. search rules) (λ c. search rules) (λ c. rw c.in-Constant.is) (λ c. rw c.in-Register.is))
+operand_of_spec = tie.close
+    (tie.spec (λ c. search rules) (λ c. search rules) (λ c. search rules) (λ c. rw c.in-Constant.is)
+    (λ c. rw c.in-Register.is))

@@ -82,4 +82,9 @@ returns-4 c = let in_lines = c.before.before.before in
     ∙ line_answered is a.thread a.line in_threads.if-header-thread.false in_lines.if-counts-thread.false
 
 pub order_line_spec : {M : Type 1} → statement M
-order_line_spec = tie.close (tie.spec (λ c κs. search rules) (λ c. search rules) (λ c κs. search rules) (λ c. search rules) (λ c κs. search rules) returns (λ c. omega (arith, in_row_unread c)) (λ c. omega (arith, in_row_unread c)) (λ c. search rules) (λ c κs. search rules) returns-2 (λ c. omega (arith, in_row c.before.before)) (λ c. omega (arith, in_row c.before.before)) (λ c. search rules) line-at-requires (λ c κs. search rules) returns-3 returns-4)
+order_line_spec = tie.close
+    (tie.spec (λ c κs. search rules) (λ c. search rules) (λ c κs. search rules) (λ c. search rules)
+    (λ c κs. search rules) returns (λ c. omega (arith, in_row_unread c)) (λ c. omega (arith, in_row_unread c))
+    (λ c. search rules) (λ c κs. search rules) returns-2 (λ c. omega (arith, in_row c.before.before))
+    (λ c. omega (arith, in_row c.before.before)) (λ c. search rules) line-at-requires (λ c κs. search rules)
+    returns-3 returns-4)

@@ -27,4 +27,6 @@ returns c = let at_starts = c.before.before in
     ∙ header_answered at_read.args.program.now r.result r.ensures
 
 pub order_read_spec : {M : Type 1} → statement M
-order_read_spec = tie.close (tie.spec (λ c κs. search rules) named_in_requires (λ c κs. search rules) (λ c κs. search rules) (λ c κs. search rules) returns)
+order_read_spec = tie.close
+    (tie.spec (λ c κs. search rules) named_in_requires (λ c κs. search rules) (λ c κs. search rules)
+    (λ c κs. search rules) returns)

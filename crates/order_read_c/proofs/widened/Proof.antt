@@ -12,7 +12,8 @@ use Rattle.order_read_c.proofs.widened.Statement.{statement}
 use Rattle.order_read_c.proofs.widened.Tie as tie
 
 abbrev invariant-loop : tie.invariant-loop-i
-invariant-loop short long₀ i₀ long i = (length long ≡ max_threads) × (length short ≡ max_threads) × (i ≤ max_threads) × (take i long ≡ take i short)
+invariant-loop short long₀ i₀ long i = (length long ≡ max_threads) × (length short ≡ max_threads) × (i ≤ max_threads)
+    × (take i long ≡ take i short)
 
 abbrev decreases-loop : tie.decreases-loop-i
 decreases-loop short long₀ i₀ long i = max_threads - i
@@ -43,4 +44,7 @@ returns c = let l = c.loop-i in
     ∙ take_all l.i short (omega (arith, l.invariant, c.loop-i-test.false))
 
 pub widened_spec : {M : Type 1} → statement M
-widened_spec = tie.close (tie.spec invariant-loop decreases-loop (λ c. (refl, search rules, omega arith, refl)) (λ c. search rules) (λ c. search rules) (λ c. search rules) (λ c. search rules) (λ c. search rules) (λ c. search rules) (λ c. search rules) loop-again returns)
+widened_spec = tie.close
+    (tie.spec invariant-loop decreases-loop (λ c. (refl, search rules, omega arith, refl)) (λ c. search rules)
+    (λ c. search rules) (λ c. search rules) (λ c. search rules) (λ c. search rules) (λ c. search rules)
+    (λ c. search rules) loop-again returns)

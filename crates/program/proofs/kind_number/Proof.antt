@@ -6,4 +6,6 @@ use Rattle.program.proofs.kind_number.Tie as tie
 
 pub kind_number_spec : {M : Type 1} → statement M
 unfolding kind_number
-kind_number_spec = tie.close (tie.spec (λ c. search rules) (λ c. search rules) (λ c. search rules) (λ c. search rules) (λ c. search rules) (λ c. search rules))
+kind_number_spec = tie.close
+    (tie.spec (λ c. search rules) (λ c. search rules) (λ c. search rules) (λ c. search rules) (λ c. search rules)
+    (λ c. search rules))

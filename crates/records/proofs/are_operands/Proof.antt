@@ -24,4 +24,6 @@ returns-2 c = let s = c.before.before.before.before.before in
     ))
 
 pub are_operands_spec : {M : Type 1} → statement M
-are_operands_spec = tie.close (tie.spec (λ c κs. search rules) (λ c κs. search rules) returns (λ c κs. search rules) (λ c κs. search rules) returns-2)
+are_operands_spec = tie.close
+    (tie.spec (λ c κs. search rules) (λ c κs. search rules) returns (λ c κs. search rules) (λ c κs. search rules)
+    returns-2)

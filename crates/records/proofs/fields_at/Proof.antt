@@ -7,4 +7,7 @@ use Rattle.records.proofs.fields_at.Tie as tie
 
 pub fields_at_spec : {M : Type 1} → statement M
 unfolding fields_of
-fields_at_spec = tie.close (tie.spec (λ c. search rules) (λ c. search rules) (λ c. search rules) (λ c. search rules) (λ c. search rules) (λ c. search rules) (λ c. search rules) (λ c. search rules) (λ c. search rules) (λ c. search rules) (λ c. simp get_or-drop))
+fields_at_spec = tie.close
+    (tie.spec (λ c. search rules) (λ c. search rules) (λ c. search rules) (λ c. search rules) (λ c. search rules)
+    (λ c. search rules) (λ c. search rules) (λ c. search rules) (λ c. search rules) (λ c. search rules)
+    (λ c. simp get_or-drop))

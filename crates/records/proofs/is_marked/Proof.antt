@@ -17,4 +17,6 @@ returns-2 c = let a = c.args in
     c.if-bytes-at.false))
 
 pub is_marked_spec : {M : Type 1} → statement M
-is_marked_spec = tie.close (tie.spec (λ c. search rules) (λ c. search rules) returns (λ c. search rules) (λ c. search rules) (λ c. search rules) returns-2)
+is_marked_spec = tie.close
+    (tie.spec (λ c. search rules) (λ c. search rules) returns (λ c. search rules) (λ c. search rules)
+    (λ c. search rules) returns-2)

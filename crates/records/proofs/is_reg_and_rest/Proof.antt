@@ -19,7 +19,8 @@ reg_below : (c : tie.Else-not-when_used)
     → let a = (at_start c).args in when_used a.r.reg (ltb a.f.reg registers) ≡ true
 reg_below c = sym c.when_used.ensures ∙ c.if-not-when_used.false
 
-reg_zero : (c : tie.Else-not-zero_unless_used) → let a = (at_start c.before.before).args in zero_unless_used a.r.reg a.f.reg ≡ true
+reg_zero : (c : tie.Else-not-zero_unless_used) → let a = (at_start c.before.before).args in
+    zero_unless_used a.r.reg a.f.reg ≡ true
 reg_zero c = sym c.zero_unless_used.ensures ∙ c.if-not-zero_unless_used.false
 
 -- The target that is tested is the row's.
@@ -75,4 +76,7 @@ returns-5 c = let fourth = c.before in
     ))
 
 pub is_reg_and_rest_spec : {M : Type 1} → statement M
-is_reg_and_rest_spec = tie.close (tie.spec (λ c. search rules) (λ c κs. search rules) returns (λ c κs. search rules) returns-2 (λ c κs. search rules) (λ c κs. search rules) returns-3 (λ c κs. search rules) returns-4 (λ c κs. search rules) returns-5)
+is_reg_and_rest_spec = tie.close
+    (tie.spec (λ c. search rules) (λ c κs. search rules) returns (λ c κs. search rules) returns-2
+    (λ c κs. search rules) (λ c κs. search rules) returns-3 (λ c κs. search rules) returns-4 (λ c κs. search rules)
+    returns-5)

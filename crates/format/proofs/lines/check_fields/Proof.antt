@@ -62,10 +62,16 @@ returns-6 c = let fourth = c.before.before in
 
 pub check_fields_spec : {M : Type 1} → statement M
 unfolding fields_to_line check found_of
-check_fields_spec = tie.close (tie.spec (λ c κs. search rules) (λ c. rw (sym c.is_op.ensures ∙ c.if-not-is_op.true)) (λ c κs. search rules) (λ c κs. search rules) (λ c κs. search rules) (λ c. rw (op_there, sym c.leaves_room-room.ensures ∙ c.if-not-room.true)) (λ c. rw (op_there, room_left, sym c.is_reg_and_rest-rest.ensures ∙ c.if-not-rest.true)) (λ c κs. search rules) (λ c. rw (op_there, room_left, rest_fits, target_tested c.before ∙ c.if-not-is_target.true)) (λ c κs. search rules) (λ c. rw (
-  op_there,
-  room_left,
-  rest_fits,
-  target_fits,
-  sym c.are_operands.ensures ∙ c.if-not-are_operands.true,
-)) returns-6)
+check_fields_spec = tie.close
+    (tie.spec (λ c κs. search rules) (λ c. rw (sym c.is_op.ensures ∙ c.if-not-is_op.true)) (λ c κs. search rules)
+    (λ c κs. search rules) (λ c κs. search rules)
+    (λ c. rw (op_there, sym c.leaves_room-room.ensures ∙ c.if-not-room.true))
+    (λ c. rw (op_there, room_left, sym c.is_reg_and_rest-rest.ensures ∙ c.if-not-rest.true)) (λ c κs. search rules)
+    (λ c. rw (op_there, room_left, rest_fits, target_tested c.before ∙ c.if-not-is_target.true))
+    (λ c κs. search rules) (λ c. rw (
+      op_there,
+      room_left,
+      rest_fits,
+      target_fits,
+      sym c.are_operands.ensures ∙ c.if-not-are_operands.true,
+    )) returns-6)

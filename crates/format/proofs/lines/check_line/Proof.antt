@@ -22,4 +22,6 @@ returns-2 c = rw (line_checked _ _ _ _ (stands c.before.before), ← c.fields_at
 
 pub check_line_spec : {M : Type 1} → statement M
 unfolding read_line check found_of
-check_line_spec = tie.close (tie.spec (λ c κs. search rules) (λ c. rw (sym c.is_record.ensures ∙ c.if-not-is_record.true)) (λ c κs. record_fits mark_in _ _ size_in c.requires (stands c)) (λ c κs. search rules) returns-2)
+check_line_spec = tie.close
+    (tie.spec (λ c κs. search rules) (λ c. rw (sym c.is_record.ensures ∙ c.if-not-is_record.true))
+    (λ c κs. record_fits mark_in _ _ size_in c.requires (stands c)) (λ c κs. search rules) returns-2)

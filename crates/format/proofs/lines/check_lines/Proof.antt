@@ -27,4 +27,8 @@ passes c = let checked = c.before in
     (sym checked.check_line-line.ensures ∙ c.in-Fenced.is)
 
 pub check_lines_spec : {M : Type 1} → statement M
-check_lines_spec = tie.close (tie.spec invariant-loop decreases-loop (λ c. lines_begin _ _ _ _ _ c.requires) (λ c κs. search rules) (λ c. search rules) (λ c. search (turn_fails, sym c.check_line-line.ensures ∙ c.in-Failed.is, rules)) (λ c. search rules) (λ c. omega (arith, (passes c).inside)) (λ c. search rules) (λ c. search rules) passes (λ c. lines_end c.loop-left.invariant c.loop-left-test.false))
+check_lines_spec = tie.close
+    (tie.spec invariant-loop decreases-loop (λ c. lines_begin _ _ _ _ _ c.requires) (λ c κs. search rules)
+    (λ c. search rules) (λ c. search (turn_fails, sym c.check_line-line.ensures ∙ c.in-Failed.is, rules))
+    (λ c. search rules) (λ c. omega (arith, (passes c).inside)) (λ c. search rules) (λ c. search rules) passes
+    (λ c. lines_end c.loop-left.invariant c.loop-left-test.false))

@@ -42,4 +42,9 @@ returns-4 c = let checked = c.before in
 
 pub read_thread_spec : {M : Type 1} → statement M
 unfolding read_thread check thread_of
-read_thread_spec = tie.close (tie.spec (λ c κs. search rules) (λ c. rw (sym c.is_record.ensures ∙ c.if-not-is_record.true)) (λ c. omega (arith, fits c)) (λ c. omega (arith, fits c.before)) (λ c. omega (arith, c.shared_slice_known-2-1.given ((at_start c.before.before).args.at + 2))) (λ c. rw (stands, get_or-drop, lt-leb _ _ c.if-n-gt-LINES.true)) (λ c. omega (arith, fits c.before.before)) (λ c κs. omega (arith, fits c.before.before)) (λ c. search rules) (λ c. search rules) returns-3 returns-4)
+read_thread_spec = tie.close
+    (tie.spec (λ c κs. search rules) (λ c. rw (sym c.is_record.ensures ∙ c.if-not-is_record.true))
+    (λ c. omega (arith, fits c)) (λ c. omega (arith, fits c.before))
+    (λ c. omega (arith, c.shared_slice_known-2-1.given ((at_start c.before.before).args.at + 2)))
+    (λ c. rw (stands, get_or-drop, lt-leb _ _ c.if-n-gt-LINES.true)) (λ c. omega (arith, fits c.before.before))
+    (λ c κs. omega (arith, fits c.before.before)) (λ c. search rules) (λ c. search rules) returns-3 returns-4)

@@ -43,4 +43,11 @@ returns-3 c = let ended = c.before in
     ∙ input_ends l.invariant ended.loop-i-test.false ended.if-next-bytes.false
 
 pub read_threads_spec : {M : Type 1} → statement M
-read_threads_spec = tie.close (tie.spec invariant-loop decreases-loop (λ c κs. search rules) (λ c. begins _ _ _ _ c.requires.0 c.no_header-header.ensures) (λ c κs. search rules) (λ c. search rules) (λ c κs. search rules) returns (λ c. search rules) (λ c. search rules) (λ c. omega (arith, (passes c).inside)) (λ c. omega arith) (λ c. omega arith) (λ c. omega arith) (λ c. search rules) (λ c. omega arith) (λ c. omega arith) (λ c. omega (arith, (passes c).inside)) (λ c. search rules) (λ c. omega (arith, (passes c).inside)) (λ c. search rules) (λ c. search rules) passes (λ c κs. search rules) (λ c. search (◌∙◌, input_goes_on, rules)) (λ c κs. search rules) returns-3)
+read_threads_spec = tie.close
+    (tie.spec invariant-loop decreases-loop (λ c κs. search rules)
+    (λ c. begins _ _ _ _ c.requires.0 c.no_header-header.ensures) (λ c κs. search rules) (λ c. search rules)
+    (λ c κs. search rules) returns (λ c. search rules) (λ c. search rules) (λ c. omega (arith, (passes c).inside))
+    (λ c. omega arith) (λ c. omega arith) (λ c. omega arith) (λ c. search rules) (λ c. omega arith) (λ c. omega arith)
+    (λ c. omega (arith, (passes c).inside)) (λ c. search rules) (λ c. omega (arith, (passes c).inside))
+    (λ c. search rules) (λ c. search rules) passes (λ c κs. search rules) (λ c. search (◌∙◌, input_goes_on, rules))
+    (λ c κs. search rules) returns-3)

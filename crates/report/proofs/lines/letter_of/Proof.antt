@@ -15,4 +15,5 @@ returns-5 c = let past : 4 ≤ c.args.kind = omega arith in sym (get_or-eq_defau
 
 pub letter_of_spec : {M : Type 1} → statement M
 unfolding letter_of
-letter_of_spec = tie.close (tie.spec (λ c. search rules) (λ c. search rules) (λ c. search rules) (λ c. search rules) returns-5)
+letter_of_spec = tie.close
+    (tie.spec (λ c. search rules) (λ c. search rules) (λ c. search rules) (λ c. search rules) returns-5)

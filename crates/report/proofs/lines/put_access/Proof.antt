@@ -14,4 +14,6 @@ returns c = let fourth = c.before.before in
     put_as (line_of_last_three _ _ _) (put_then (put_then two third.put_field-next-2.ensures) fourth.put_byte.ensures)
 
 pub put_access_spec : {M : Type 1} → statement M
-put_access_spec = tie.close (tie.spec (λ c κs. search rules) (λ c κs. search rules) (λ c κs. search rules) (λ c κs. search rules) (λ c. search rules) returns)
+put_access_spec = tie.close
+    (tie.spec (λ c κs. search rules) (λ c κs. search rules) (λ c κs. search rules) (λ c κs. search rules)
+    (λ c. search rules) returns)

@@ -6,4 +6,6 @@ use Rattle.report.proofs.lines.put_ending.Statement.{statement}
 use Rattle.report.proofs.lines.put_ending.Tie as tie
 
 pub put_ending_spec : {M : Type 1} → statement M
-put_ending_spec = tie.close (tie.spec (λ c. search rules) (λ c. search rules) (λ c κs. search rules) (λ c κs. search rules) (λ c κs. search rules) (λ c. search rules) (λ c. search (ending_put, ending_is_short, rules)))
+put_ending_spec = tie.close
+    (tie.spec (λ c. search rules) (λ c. search rules) (λ c κs. search rules) (λ c κs. search rules)
+    (λ c κs. search rules) (λ c. search rules) (λ c. search (ending_put, ending_is_short, rules)))

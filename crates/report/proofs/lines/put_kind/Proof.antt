@@ -15,4 +15,5 @@ returns c = let second = c.before.before in
     (put_then first.put_byte-next.ensures second.put_byte.ensures)
 
 pub put_kind_spec : {M : Type 1} → statement M
-put_kind_spec = tie.close (tie.spec (λ c κs. search rules) (λ c κs. search rules) (λ c κs. search rules) (λ c. search rules) returns)
+put_kind_spec = tie.close
+    (tie.spec (λ c κs. search rules) (λ c κs. search rules) (λ c κs. search rules) (λ c. search rules) returns)

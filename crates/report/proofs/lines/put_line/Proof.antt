@@ -13,4 +13,5 @@ returns c = let third = c.before.before in
     (put_then (put_then first.put_bytes-next.ensures second.put_field-next.ensures) third.put_byte.ensures)
 
 pub put_line_spec : {M : Type 1} → statement M
-put_line_spec = tie.close (tie.spec (λ c κs. search rules) (λ c κs. search rules) (λ c κs. search rules) (λ c. search rules) returns)
+put_line_spec = tie.close
+    (tie.spec (λ c κs. search rules) (λ c κs. search rules) (λ c κs. search rules) (λ c. search rules) returns)

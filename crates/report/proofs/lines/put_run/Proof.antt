@@ -9,8 +9,11 @@ returns c = let fourth = c.before.before in
     let third = fourth.before.before.before.before in
     let second = third.before.before.before.before in
     let first = second.before.before.before.before in
-    put_then (put_then (put_then first.put_bytes-next.ensures second.put_field-next.ensures) third.put_field-next-2.ensures)
+    put_then (put_then (put_then first.put_bytes-next.ensures second.put_field-next.ensures)
+    third.put_field-next-2.ensures)
     fourth.put_field.ensures
 
 pub put_run_spec : {M : Type 1} → statement M
-put_run_spec = tie.close (tie.spec (λ c κs. search rules) (λ c κs. search rules) (λ c κs. search rules) (λ c κs. search rules) (λ c. search rules) returns)
+put_run_spec = tie.close
+    (tie.spec (λ c κs. search rules) (λ c κs. search rules) (λ c κs. search rules) (λ c κs. search rules)
+    (λ c. search rules) returns)

@@ -12,4 +12,5 @@ returns c = let third = c.before.before in
     step_line_put _ _ _ _ (put_then first.put_bytes-next.ensures second.put_field-next.ensures) third.put_access.ensures
 
 pub put_step_spec : {M : Type 1} → statement M
-put_step_spec = tie.close (tie.spec (λ c κs. search rules) (λ c κs. search rules) (λ c κs. search rules) (λ c. search rules) returns)
+put_step_spec = tie.close
+    (tie.spec (λ c κs. search rules) (λ c κs. search rules) (λ c κs. search rules) (λ c. search rules) returns)

@@ -29,4 +29,10 @@ returns-2 c = let l = c.loop-i in
     rw e l.invariant.1
 
 pub put_steps_spec : {M : Type 1} → statement M
-put_steps_spec = tie.close (tie.spec invariant-loop decreases-loop (λ c. (search rules, no_steps_put _)) (λ c. omega (arith, ltb-true)) (λ c. omega (arith, ltb-true)) (λ c. omega (arith, ltb-true)) (λ c. omega (arith, ltb-true)) (λ c. omega (arith, ltb-true)) (λ c. omega (arith, ltb-true)) (λ c. omega (arith, ltb-true)) (λ c. omega (arith, ltb-true)) (λ c κs. search rules) (λ c. search rules) (λ c. search rules) loop-again (λ c. put_same_length c.loop-i.invariant.1) (λ c. search (steps_put, ltb-false, rules)) (λ c. put_same_length c.loop-i.invariant.1) returns-2)
+put_steps_spec = tie.close
+    (tie.spec invariant-loop decreases-loop (λ c. (search rules, no_steps_put _)) (λ c. omega (arith, ltb-true))
+    (λ c. omega (arith, ltb-true)) (λ c. omega (arith, ltb-true)) (λ c. omega (arith, ltb-true))
+    (λ c. omega (arith, ltb-true)) (λ c. omega (arith, ltb-true)) (λ c. omega (arith, ltb-true))
+    (λ c. omega (arith, ltb-true)) (λ c κs. search rules) (λ c. search rules) (λ c. search rules) loop-again
+    (λ c. put_same_length c.loop-i.invariant.1) (λ c. search (steps_put, ltb-false, rules))
+    (λ c. put_same_length c.loop-i.invariant.1) returns-2)

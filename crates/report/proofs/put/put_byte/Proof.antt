@@ -5,4 +5,6 @@ use Rattle.report.proofs.put.put_byte.Statement.{statement}
 use Rattle.report.proofs.put.put_byte.Tie as tie
 
 pub put_byte_spec : {M : Type 1} → statement M
-put_byte_spec = tie.close (tie.spec (λ c. search rules) (λ c. search rules) (λ c. search rules) (λ c. search rules) (λ c. put_past _ _ _ c.if-at-out.false))
+put_byte_spec = tie.close
+    (tie.spec (λ c. search rules) (λ c. search rules) (λ c. search rules) (λ c. search rules)
+    (λ c. put_past _ _ _ c.if-at-out.false))

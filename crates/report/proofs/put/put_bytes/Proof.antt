@@ -14,4 +14,7 @@ abbrev decreases-loop : tie.decreases-loop-i
 decreases-loop out₀ at bytes next₀ i₀ out next i = length bytes - i
 
 pub put_bytes_spec : {M : Type 1} → statement M
-put_bytes_spec = tie.close (tie.spec invariant-loop decreases-loop (λ c. (search rules, put_nothing _ _)) (λ c. search rules) (λ c κs. search rules) (λ c. search rules) (λ c. search rules) (λ c. search (put_one_more, rules)) (λ c. put_same_length c.loop-i.invariant.1) (λ c. put_all _ c.loop-i.invariant.1 c.loop-i-test.false))
+put_bytes_spec = tie.close
+    (tie.spec invariant-loop decreases-loop (λ c. (search rules, put_nothing _ _)) (λ c. search rules)
+    (λ c κs. search rules) (λ c. search rules) (λ c. search rules) (λ c. search (put_one_more, rules))
+    (λ c. put_same_length c.loop-i.invariant.1) (λ c. put_all _ c.loop-i.invariant.1 c.loop-i-test.false))
