@@ -2,7 +2,8 @@
  * The order checker for C: does a small concurrent program behave on a release/acquire machine exactly as on a
  * sequentially consistent (SC) one?
  *
- * `rt lib` in crates/order_check_c proves it and makes out/liborder_check_c.a there, for x86-64 Linux:
+ * `rt lib` in crates/order_check_c proves it and makes out/liborder_check_c.a there, for x86-64 Linux and a
+ * processor of level x86-64-v2:
  *
  *     cc -Icrates/order_check_c caller.c crates/order_check_c/out/liborder_check_c.a
  *
@@ -85,7 +86,7 @@ extern "C" {
 /* The same for a program with a fence, of T threads and L named locations, as its header says. */
 #define ORDER_FENCED_PLACE_SIZE(T, L) ORDER_PLACE_SIZE(T, (size_t)(L) + 1)
 
-/* A call uses less stack than this, in bytes, whatever it is given. This is measured, not proved: it uses 6,500 or so. */
+/* A call uses less stack than this, in bytes, whatever it is given. This is measured, not proved: it uses 11,700 or so. */
 #define ORDER_CHECK_STACK 16384
 
 /* The numbers of an answer, by their index. Every call writes all of them; what a verdict does not use is 0. */

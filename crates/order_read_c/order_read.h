@@ -1,7 +1,8 @@
 /*
  * The reader of the order checker for C: are these bytes a program, and what are its lines?
  *
- * `rt lib` in crates/order_read_c proves it and makes out/liborder_read_c.a there, for x86-64 Linux:
+ * `rt lib` in crates/order_read_c proves it and makes out/liborder_read_c.a there, for x86-64 Linux and a
+ * processor of level x86-64-v2:
  *
  *     cc -Icrates/order_read_c caller.c crates/order_read_c/out/liborder_read_c.a
  *

@@ -68,6 +68,22 @@ fn it_writes_the_file_that_o_names() {
     assert_eq!(fs::read(&file).unwrap(), SB.as_bytes());
 }
 
+/// A symbolic link that goes with its test: `rt ci` takes none in the repository, whoever left it there.
+struct Link(PathBuf);
+
+impl Link {
+    fn new(original: &str, link: PathBuf) -> Link {
+        std::os::unix::fs::symlink(original, &link).unwrap();
+        Link(link)
+    }
+}
+
+impl Drop for Link {
+    fn drop(&mut self) {
+        let _ = fs::remove_file(&self.0);
+    }
+}
+
 /// It would be lost: the output is no model, and what the input said in comments is nowhere else.
 #[test]
 fn an_output_that_is_the_input_is_refused() {
@@ -79,7 +95,7 @@ fn an_output_that_is_the_input_is_refused() {
     }
     fs::write(&input, SB).unwrap();
     fs::hard_link(&input, folder.join("hard")).unwrap();
-    std::os::unix::fs::symlink("sb.order", folder.join("soft")).unwrap();
+    let _soft = Link::new("sb.order", folder.join("soft"));
     for out in ["sb.order", "./sb.order", "../same/sb.order", "hard", "soft", input.to_str().unwrap()] {
         let message = format!("expected another file than the input after -o, found {out}");
         let message = format!("order_asm: {message}; see order_asm --help\n");
