@@ -5,7 +5,7 @@ It takes the pairs (old name, new name) from the two trees alone, token by token
   - that each file has the same tokens at the same places but for names, and the same lines;
   - that one old name has one new name in the whole repository, and in each file one new name one old name;
   - that names which specs/ declares do not fall together in all crates;
-  - that Rust code and strings are the same, and that no other file changed.
+  - that Rust code and strings are the same, and that no other file of BEFORE changed.
 """
 import collections
 import os
