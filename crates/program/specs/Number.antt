@@ -7,7 +7,7 @@ use Rattle.program.specs.declared.Refusal.TheVariants.{NoHeader, OutOfRange, NoR
 use Rattle.program.specs.declared.Refusal.TheVariants.{NoRoomForFence, BadFields, NoSuchTarget, NoSuchOperand, MoreBytes}
 
 -- "Checks, in this order": the number of each, and 12 of the one that is asked "directly after check 5".
-unfoldable pub refusal_number : Refusal → ℕ
+abbrev pub refusal_number : Refusal → ℕ
 refusal_number NoHeader = 1
 refusal_number OutOfRange = 2
 refusal_number NoRecord = 3
@@ -20,6 +20,6 @@ refusal_number NoSuchOperand = 8
 refusal_number MoreBytes = 9
 
 -- A result as an outcome: a refusal stands for its number.
-unfoldable pub outcome_of : {A : Type 0} → Result A Refusal → Outcome A
+abbrev pub outcome_of : {A : Type 0} → Result A Refusal → Outcome A
 outcome_of (Ok a) = accepted a
 outcome_of (Err refusal) = refused (refusal_number refusal)

@@ -68,7 +68,6 @@ impl From<Kind> for u8 {
 impl From<Refusal> for u8 {
     ghost from_gives = { λ refusal number. number ≡ refusal_number refusal };
 
-    #[tactic(auto, unfolding(crate::specs::Number::refusal_number))]
     fn from(refusal: Refusal) -> u8 {
         match refusal {
             Refusal::NoHeader => 1,
