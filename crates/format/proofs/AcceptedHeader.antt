@@ -1,12 +1,12 @@
 -- What the reader's answer tells its callers: an accepted input, and what its header holds.
 use Prim.Native.Nat.{ℕ, ◌+◌, ◌*◌, ◌≤◌, ◌<◌}
 use native.Mathlib.Omega.{arith}
-use mathlib.Core.Path.{◌≡◌, refl, ap, sym, ◌∙◌}
+use mathlib.Core.Path.{◌≡◌, ap, sym, ◌∙◌}
 use mathlib.Core.List.{List, [], map}
 use lib.ListN.{length, get_or, replicate, length-replicate, length-map, get_or-append, get_or-map}
 use lib.Seq.{sets, sets-eq}
 use Rattle.limits.specs.Limits.{max_threads}
-use Rattle.program.specs.Program.{Program, lines_of}
+use Rattle.program.specs.Program.{lines_of}
 use Rattle.std.specs.Prelude.{Result, Ok}
 use Rattle.program.specs.Outcome.{told}
 use Rattle.program.specs.Outcome.Outcome.{accepted}

@@ -10,7 +10,7 @@ use Rattle.limits.specs.Limits.{max_threads}
 use Rattle.program.specs.Format.{is_record, are_in_range, mark_pr, size_pr}
 use Rattle.program.proofs.RecordLaws.{record_stands}
 use Rattle.program.proofs.HeaderLaws.{in_range}
-use Rattle.std.specs.Prelude.{Result, Err, IsErr, IsErrAnd}
+use Rattle.std.specs.Prelude.{Result, IsErr, IsErrAnd}
 use Rattle.program.specs.Program.{Operand, Line, is_fence}
 use Rattle.program.specs.Program.Line.{sum, equal, less, jump, write, read, fadd, cas, wait, bcas, fence}
 use Rattle.program.specs.Outcome.{Outcome, check, told}

@@ -1,7 +1,6 @@
 -- A thread that fails ends the reading; one that is read leads to the next.
-use Prim.Native.Nat.{◌≤◌}
 use native.Mathlib.Omega.{arith}
-use mathlib.Core.Path.{refl, sym, ◌∙◌}
+use mathlib.Core.Path.{sym, ◌∙◌}
 use Rattle.format.proofs.FieldChecks.{handed_on}
 use Rattle.format.proofs.Filling.{begins, turn_fails, turn_passes, input_ends, input_goes_on, flag_counted, flag_small}
 use Rattle.format.proofs.threads.read_threads.Goals as goal
