@@ -5,6 +5,7 @@ use Rattle.limits.specs.Limits.{max_threads}
 use Rattle.program.specs.Program.{Operand as ModelOperand, Line as ModelLine, Program, lines_of}
 use Rattle.program.specs.Program.Operand.{constant, register}
 use Rattle.program.specs.Program.Line.{sum, equal, less, jump, write, read, fadd, cas, wait, bcas, fence}
+use Rattle.program.specs.Outcome.{Outcome, told}
 use Rattle.program.specs.Outcome.Outcome.{accepted}
 use Rattle.program.specs.Format.{size_pr, read_program, program_of}
 use Rattle.program.specs.Layout.{starts_from, start_of}
@@ -25,6 +26,10 @@ header_of p =
       starts = sets (replicate max_threads 0) 0 (starts_from size_pr p.threads);
       counts = sets (replicate max_threads 0) 0 (map length p.threads);
     }
+
+-- The answer of the reader: the number of the first failed check, or the program's header.
+abbrev pub reading : Outcome Program → Outcome Header
+reading outcome = told header_of outcome
 
 -- An accepted input with its header.
 pub record Accepted (bytes : List ℕ) (h : Header) : Type 0 where

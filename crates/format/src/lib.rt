@@ -9,8 +9,7 @@ ghost use Rattle.std.specs.Prelude.{◌≡◌, ℕ, ◌+◌, ◌*◌, ◌≤◌,
 ghost use Rattle.program.specs.Program.{Line as ModelLine, lines_of};
 ghost use Rattle.program.specs.Format.{size_in, are_in_range, read_program, program_of};
 ghost use Rattle.program.specs.Number.{outcome_of};
-ghost use Rattle.program.specs.Outcome.{told};
-ghost use Rattle.format.specs.Answer.{header_of, LineAt, line_means};
+ghost use Rattle.format.specs.Answer.{reading, LineAt, line_means};
 
 use lines::decode;
 use program::Refusal;
@@ -108,7 +107,7 @@ fn are_in_range(t: u8, l: u8, k: u8) -> bool
 // Reads any input: the first failed check, or the header of the program that the bytes spell.
 #[tactic(auto, using(crate::proofs::FieldChecks::header_checked), unfolding(program::specs::Format::read_program))]
 pub fn read(bytes: &[u8]) -> Result<Header, Refusal>
-    ensures { outcome_of result ≡ told header_of (read_program bytes.now) }
+    ensures { outcome_of result ≡ reading (read_program bytes.now) }
 {
     if !is_record(bytes, 0, b"PR", PR_SIZE) {
         return Err(Refusal::NoHeader);

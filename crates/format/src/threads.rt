@@ -4,7 +4,7 @@ ghost use Rattle.limits.specs.Limits.{max_threads};
 ghost use Rattle.program.specs.Outcome.{and_then, told};
 ghost use Rattle.program.specs.Number.{outcome_of};
 ghost use Rattle.program.specs.Format.{size_pr, read_thread, read_threads, ends_after};
-ghost use Rattle.format.specs.Answer.{header_of};
+ghost use Rattle.format.specs.Answer.{reading};
 ghost use Rattle.format.specs.Inner.{lines_told};
 
 use crate::lines::check_lines;
@@ -39,7 +39,7 @@ fn read_thread(bytes: &[u8], at: usize, l: u8, k: u8) -> Result<Lines, Refusal>
 pub fn read_threads(bytes: &[u8], t: u8, l: u8, k: u8) -> Result<Header, Refusal>
     requires { (size_pr ≤ length bytes.now) × (t ≤ max_threads) }
     ensures { outcome_of result
-        ≡ told header_of (and_then (read_threads l k t (drop size_pr bytes.now)) (ends_after l k)) }
+        ≡ reading (and_then (read_threads l k t (drop size_pr bytes.now)) (ends_after l k)) }
 {
     let mut header = Header {
         threads: usize::from(t),
