@@ -1,21 +1,23 @@
 -- What the reader's answer tells its callers: an accepted input, and what its header holds.
 use Prim.Native.Nat.{ℕ, ◌+◌, ◌*◌, ◌≤◌, ◌<◌}
 use native.Mathlib.Omega.{arith}
-use mathlib.Core.Path.{◌≡◌, refl, ap, sym, ◌∙◌}
+use mathlib.Core.Path.{◌≡◌, ap, sym, ◌∙◌}
 use mathlib.Core.List.{List, [], map}
 use lib.ListN.{length, get_or, replicate, length-replicate, length-map, get_or-append, get_or-map}
 use lib.Seq.{sets, sets-eq}
 use Rattle.limits.specs.Limits.{max_threads}
-use Rattle.program.specs.Program.{Program, lines_of}
-use Rattle.program.specs.Outcome.{Outcome}
-use Rattle.program.specs.Outcome.Outcome.{refused, accepted}
+use Rattle.program.specs.Program.{lines_of}
+use Rattle.std.specs.Prelude.{Result, Ok}
+use Rattle.program.specs.Outcome.{told}
+use Rattle.program.specs.Outcome.Outcome.{accepted}
+use Rattle.program.specs.Number.{outcome_of}
+use Rattle.program.specs.declared.Refusal.{Refusal}
 use Rattle.program.specs.Within.{Within}
 use Rattle.program.specs.Format.{size_pr, size_in, read_program, program_in, program_of}
 use Rattle.program.specs.Layout.{starts_from, start_of}
-use Rattle.format.specs.Answer.{Accepted, LineAt, reading, header_of}
-use Rattle.format.specs.declared.Check.TheVariants.{Passed}
+use Rattle.format.specs.Answer.{Accepted, LineAt, header_of}
 use Rattle.format.specs.declared.Header.{Header}
-use Rattle.format.specs.declared.Reading.{Reading}
+use Rattle.format.proofs.Turns.{is_accepted}
 use Rattle.program.proofs.RoundTrip.{accepted_is_spelling}
 use Rattle.program.proofs.StartLaws.{length-starts_from}
 use Rattle.format.proofs.AcceptedLines.{line_fits}
@@ -27,18 +29,17 @@ front_of_row width l t h fits =
     let room = length-replicate {A = ℕ} width 0 in
     rw (sets-eq l (replicate width 0) 0 (omega arith), get_or-append l _ 0 t h)
 
-outcome_passed : (o : Outcome Program) → (reading o).check ≡ Passed
-    → (o ≡ accepted (program_in o)) × ((reading o).header ≡ header_of (program_in o))
-unfolding reading program_in
-outcome_passed (refused k) e = absurd (let z : ◌≡◌ {A = ℕ} 0 1 = cc in omega arith)
-outcome_passed (accepted p) e = (refl, refl)
-
--- Where the reader's check passed, the input is accepted and the header is its program's.
-pub passed_is_accepted : (bytes : List ℕ) (r : Reading) → r ≡ reading (read_program bytes) → r.check ≡ Passed
-    → Accepted bytes r.header
-passed_is_accepted bytes r e passed =
-    let (p, h) = outcome_passed (read_program bytes) (ap (λ (x : Reading). x.check) (sym e) ∙ passed) in
-    record { program = p; header = ap (λ (x : Reading). x.header) e ∙ h }
+-- An input that is read to a header is accepted, and the header is its program's.
+pub read_is_accepted : (bytes : List ℕ) (r : Result Header Refusal) → outcome_of r ≡ told header_of (read_program bytes)
+    → {h : Header} → r ≡ Ok h → Accepted bytes h
+unfolding program_in
+read_is_accepted bytes r e {h} read =
+    let told_of = sym e ∙ ap (outcome_of {A = Header}) read in
+    let (p, accepts, header) = is_accepted header_of (read_program bytes) told_of in
+    record {
+      program = accepts ∙ ap accepted (sym (ap program_in accepts));
+      header = sym header ∙ ap header_of (sym (ap program_in accepts));
+    }
 
 module _ (bytes : List ℕ) (h : Header) (is : Accepted bytes h) where
   -- The program is within the limits.

@@ -1,3 +1,4 @@
+pub mod FieldChecks
 pub mod AcceptedLines
 pub mod Turns
 pub mod Filling

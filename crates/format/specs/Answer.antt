@@ -5,32 +5,18 @@ use Rattle.limits.specs.Limits.{max_threads}
 use Rattle.program.specs.Program.{Operand as ModelOperand, Line as ModelLine, Program, lines_of}
 use Rattle.program.specs.Program.Operand.{constant, register}
 use Rattle.program.specs.Program.Line.{sum, equal, less, jump, write, read, fadd, cas, wait, bcas, fence}
-use Rattle.program.specs.Outcome.{Outcome}
-use Rattle.program.specs.Outcome.Outcome.{refused, accepted}
+use Rattle.program.specs.Outcome.{Outcome, told}
+use Rattle.program.specs.Outcome.Outcome.{accepted}
 use Rattle.program.specs.Format.{size_pr, read_program, program_of}
 use Rattle.program.specs.Layout.{starts_from, start_of}
-use Rattle.format.specs.declared.Check.{Check}
-use Rattle.format.specs.declared.Check.TheVariants.{Passed, Failed}
 use Rattle.format.specs.declared.Header.{Header}
-use Rattle.format.specs.declared.Reading.{Reading}
 use Rattle.format.specs.declared.Operand.{Operand}
 use Rattle.format.specs.declared.Operand.TheVariants.{Constant, Register}
 use Rattle.format.specs.declared.Line.{Line}
 use Rattle.format.specs.declared.Line.TheVariants.{Sum, Equal, Less, Jump, Write, Read, Fadd, Cas, Wait, Bcas, Fence}
 
--- The header of no program: 0 throughout.
-unfoldable pub no_header : Header
-no_header =
-    record {
-      threads = 0;
-      locations = 0;
-      values = 0;
-      starts = replicate max_threads 0;
-      counts = replicate max_threads 0;
-    }
-
--- The header of a program: T, the number of all its locations, K, and for each thread where its lines start and how many
--- there are, 0 past the last thread.
+-- The header of a program: T, the number of all its locations, K, and for each thread where its lines start and how
+-- many there are, 0 past the last thread.
 unfoldable pub header_of : Program → Header
 header_of p =
     record {
@@ -42,12 +28,8 @@ header_of p =
     }
 
 -- The answer of the reader: the number of the first failed check, or the program's header.
-abbrev pub refusal : ℕ → Reading
-refusal number = record { check = Failed number; header = no_header }
-
-unfoldable pub reading : Outcome Program → Reading
-reading (refused number) = refusal number
-reading (accepted p) = record { check = Passed; header = header_of p }
+abbrev pub reading : Outcome Program → Outcome Header
+reading outcome = told header_of outcome
 
 -- An accepted input with its header.
 pub record Accepted (bytes : List ℕ) (h : Header) : Type 0 where

@@ -1,146 +1,106 @@
 // The lines of a thread: their checks, and the line of a record that passed.
 ghost use Rattle.std.specs.Prelude.{◌≡◌, ◌≤◌, length, drop};
 ghost use Rattle.program.specs.Program.{is_fence};
-ghost use Rattle.program.specs.Ops.{op_at};
+ghost use Rattle.program.specs.Outcome.{told};
+ghost use Rattle.program.specs.Number.{outcome_of};
 ghost use Rattle.program.specs.Format.{operand, fields_to_line, read_line, read_lines};
+ghost use Rattle.records.specs.Fields.{table_row};
 ghost use Rattle.format.specs.Answer.{operand_means, line_means};
-ghost use Rattle.format.specs.Inner.{found_of, line_is_fence, lines_have_fence};
+ghost use Rattle.format.specs.Inner.{line_is_fence, lines_have_fence};
 
 use crate::{IN_SIZE, Line, Operand};
-use records::{
-    FENCE, FIRST_REGISTER, Fields, are_operands, fields_at, is_op, is_record, is_reg_and_rest,
-    is_target, leaves_room, row_of,
-};
+use program::Refusal;
+use records::{FIRST_REGISTER, Fields, Op, is_record};
 
-// What the checks of a line, or of several, find: whether a fence is there, or the check that failed.
-#[derive(Clone, Copy)]
-pub enum Found {
-    Fenced(bool),
-    Failed(u8),
-}
-
-// Checks 5 to 8 of the fields of a line, with 12 directly after 5.
-fn check_fields(f: Fields, l: u8, k: u8, n: u8) -> Found
-    ensures { result ≡ found_of is_fence (fields_to_line l k n f.op f.reg f.target f.a f.b) }
+// Checks 5 to 8 of the fields of a line, with 12 directly after 5: whether the line is a fence.
+#[tactic(auto, using(crate::proofs::FieldChecks::fields_checked), unfolding(program::specs::Format::fields_to_line))]
+fn check_fields(fields: Fields, l: u8, k: u8, n: u8) -> Result<bool, Refusal>
+    ensures { outcome_of result
+        ≡ told is_fence (fields_to_line l k n fields.op fields.reg fields.target fields.a fields.b) }
 {
-    let op = f.op;
-    if !is_op(op) {
-        return Found::Failed(5);
+    let op = Op::try_from(fields.op)?;
+    if !op.leaves_room(l) {
+        return Err(Refusal::NoRoomForFence);
     }
-    let room = leaves_room(l, op);
-    let r = row_of(op);
-    let rest = is_reg_and_rest(r, f);
-    // Of the two tests that were made, 12 is asked first.
-    if !room {
-        return Found::Failed(12);
+    if !fields.is_reg_and_rest(op) {
+        return Err(Refusal::BadFields);
     }
-    if !rest {
-        return Found::Failed(6);
+    if !fields.is_target(op, l, n) {
+        return Err(Refusal::NoSuchTarget);
     }
-    let target = r.target;
-    if !is_target(target, l, n, f.target) {
-        return Found::Failed(7);
+    if !fields.are_operands(op, k) {
+        return Err(Refusal::NoSuchOperand);
     }
-    if !are_operands(r, f, k) {
-        return Found::Failed(8);
-    }
-    Found::Fenced(op == FENCE)
+    Ok(op == Op::Fence)
 }
 
 // Check 3, then those of the fields, of the line that is due at the cursor.
-fn check_line(bytes: &[u8], at: usize, l: u8, k: u8, n: u8) -> Found
+#[tactic(auto, using(crate::proofs::Turns::line_checks))]
+fn check_line(bytes: &[u8], at: usize, l: u8, k: u8, n: u8) -> Result<bool, Refusal>
     requires { at ≤ length bytes.now }
-    ensures { result ≡ found_of line_is_fence (read_line l k n (drop at bytes.now)) }
+    ensures { outcome_of result ≡ told line_is_fence (read_line l k n (drop at bytes.now)) }
 {
     if !is_record(bytes, at, b"IN", IN_SIZE) {
-        return Found::Failed(3);
+        return Err(Refusal::NoRecord);
     }
-    check_fields(fields_at(bytes, at), l, k, n)
+    check_fields(Fields::at(bytes, at), l, k, n)
 }
 
-// All n lines of a thread, from the cursor.
-pub fn check_lines(bytes: &[u8], at: usize, l: u8, k: u8, n: u8) -> Found
+// All n lines of a thread, from the cursor: whether a fence is among them.
+pub fn check_lines(bytes: &[u8], at: usize, l: u8, k: u8, n: u8) -> Result<bool, Refusal>
     requires { at ≤ length bytes.now }
-    ensures { result ≡ found_of lines_have_fence (read_lines l k n n (drop at bytes.now)) }
+    ensures { outcome_of result ≡ told lines_have_fence (read_lines l k n n (drop at bytes.now)) }
 {
     let mut fenced = false;
     let mut next = at;
-    let mut left = n;
-    while 0 < left {
-        let line = check_line(bytes, next, l, k, n);
-        match line {
-            Found::Failed(number) => {
-                return Found::Failed(number);
-            }
-            Found::Fenced(fence) => {
-                fenced = fenced | fence;
-                next = next + IN_SIZE;
-                left = left - 1;
-            }
-        }
+    for _ in 0..n {
+        fenced |= check_line(bytes, next, l, k, n)?;
+        next += IN_SIZE;
     }
-    Found::Fenced(fenced)
+    Ok(fenced)
 }
 
 // An operand among k values. (A byte between the values and the registers stands for none, and is never used.)
+#[tactic(auto, unfolding(crate::specs::Answer::operand_means, program::specs::Format::operand))]
 fn operand_of(k: usize, x: u8) -> Operand
     ensures { operand_means result ≡ operand k x }
 {
-    let v = x as usize;
-    if v < k {
-        return Operand::Constant(x);
+    if usize::from(x) < k {
+        Operand::Constant(x)
+    } else {
+        Operand::Register(usize::from(x).saturating_sub(FIRST_REGISTER))
     }
-    if v < FIRST_REGISTER {
-        return Operand::Register(0);
-    }
-    Operand::Register(v - FIRST_REGISTER)
 }
 
-// The line that the fields of an op's record are.
-pub fn decode(f: Fields, k: usize) -> Line
-    ensures { line_means result ≡ (op_at f.op).makes f.reg f.target (operand k f.a) (operand k f.b) }
+// The line that an op makes of the fields of its record.
+#[tactic(auto, using(crate::proofs::FieldChecks::row_makes), unfolding(crate::specs::Answer::line_means))]
+pub fn decode(op: Op, fields: Fields, k: usize) -> Line
+    ensures { line_means result
+        ≡ (table_row op).makes fields.reg fields.target (operand k fields.a) (operand k fields.b) }
 {
-    let op = f.op;
-    let reg = f.reg as usize;
-    let target = f.target as usize;
-    let a = operand_of(k, f.a);
-    let b = operand_of(k, f.b);
+    let reg = usize::from(fields.reg);
+    let location = usize::from(fields.target);
+    let a = operand_of(k, fields.a);
+    let b = operand_of(k, fields.b);
     match op {
-        2 => Line::Equal { reg, a, b },
-        3 => Line::Less { reg, a, b },
-        4 => Line::Jump {
-            target: f.target,
+        Op::Sum => Line::Sum { reg, a, b },
+        Op::Equal => Line::Equal { reg, a, b },
+        Op::Less => Line::Less { reg, a, b },
+        Op::Jump => Line::Jump {
+            target: fields.target,
             a,
         },
-        5 => Line::Write {
-            location: target,
-            a,
-        },
-        6 => Line::Read {
+        Op::Write => Line::Write { location, a },
+        Op::Read => Line::Read { reg, location },
+        Op::Fadd => Line::Fadd { reg, location, a },
+        Op::Cas => Line::Cas {
             reg,
-            location: target,
-        },
-        7 => Line::Fadd {
-            reg,
-            location: target,
-            a,
-        },
-        8 => Line::Cas {
-            reg,
-            location: target,
+            location,
             a,
             b,
         },
-        9 => Line::Wait {
-            location: target,
-            a,
-        },
-        10 => Line::Bcas {
-            location: target,
-            a,
-            b,
-        },
-        11 => Line::Fence,
-        _ => Line::Sum { reg, a, b },
+        Op::Wait => Line::Wait { location, a },
+        Op::Bcas => Line::Bcas { location, a, b },
+        Op::Fence => Line::Fence,
     }
 }

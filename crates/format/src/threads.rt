@@ -1,82 +1,65 @@
 // The threads of a program.
-ghost use Rattle.std.specs.Prelude.{◌≡◌, ◌+◌, ◌≤◌, cond, length, drop};
+ghost use Rattle.std.specs.Prelude.{◌≡◌, ◌≤◌, length, drop};
 ghost use Rattle.limits.specs.Limits.{max_threads};
-ghost use Rattle.program.specs.Outcome.{and_then};
+ghost use Rattle.program.specs.Outcome.{and_then, told};
+ghost use Rattle.program.specs.Number.{outcome_of};
 ghost use Rattle.program.specs.Format.{size_pr, read_thread, read_threads, ends_after};
 ghost use Rattle.format.specs.Answer.{reading};
-ghost use Rattle.format.specs.Inner.{thread_of};
+ghost use Rattle.format.specs.Inner.{lines_told};
 
-use crate::lines::{Found, check_lines};
-use crate::{Check, IN_SIZE, PR_SIZE, Reading, TH_SIZE, no_header, refused};
+use crate::lines::check_lines;
+use crate::{Header, IN_SIZE, PR_SIZE, TH_SIZE};
+use program::Refusal;
 use records::is_record;
 
-// What reading a thread finds: its n and whether a fence is among its lines, or the check that failed.
-#[derive(Clone, Copy)]
-pub enum Thread {
-    Lines { n: u8, fence: bool },
-    Faulty(u8),
+// A thread that was read: how many lines it has, and whether a fence is among them.
+#[derive(Clone, Copy, Debug, PartialEq, Eq)]
+pub struct Lines {
+    pub count: u8,
+    pub fenced: bool,
 }
 
-fn read_thread(bytes: &[u8], at: usize, l: u8, k: u8) -> Thread
+#[tactic(auto, using(crate::proofs::Turns::thread_checks))]
+fn read_thread(bytes: &[u8], at: usize, l: u8, k: u8) -> Result<Lines, Refusal>
     requires { at ≤ length bytes.now }
-    ensures { result ≡ thread_of (read_thread l k (drop at bytes.now)) }
+    ensures { outcome_of result ≡ told lines_told (read_thread l k (drop at bytes.now)) }
 {
     if !is_record(bytes, at, b"TH", TH_SIZE) {
-        return Thread::Faulty(3);
+        return Err(Refusal::NoRecord);
     }
-    let n = bytes[at + 2];
-    if limits::LINES < n as usize {
-        return Thread::Faulty(4);
+    let count = bytes[at + 2];
+    if limits::LINES < usize::from(count) {
+        return Err(Refusal::TooManyLines);
     }
-    let lines = check_lines(bytes, at + TH_SIZE, l, k, n);
-    match lines {
-        Found::Fenced(fence) => Thread::Lines { n, fence },
-        Found::Failed(number) => Thread::Faulty(number),
-    }
+    let fenced = check_lines(bytes, at + TH_SIZE, l, k, count)?;
+    Ok(Lines { count, fenced })
 }
 
-// All locations that runs have: the l named ones, and the fence's where there is a fence.
-fn all_locations(l: u8, fenced: bool) -> usize
-    ensures { result ≡ l + cond fenced 1 0 }
-{
-    let named = l as usize;
-    if fenced { named + 1 } else { named }
-}
-
-// The t threads of a program with l named locations and k values, from the first TH record on, and the end of the input.
-pub fn read_threads(bytes: &[u8], t: u8, l: u8, k: u8) -> Reading
+// The t threads of a program with l named locations and k values, from the first TH record to the end of the input.
+pub fn read_threads(bytes: &[u8], t: u8, l: u8, k: u8) -> Result<Header, Refusal>
     requires { (size_pr ≤ length bytes.now) × (t ≤ max_threads) }
-    ensures { result ≡ reading (and_then (read_threads l k t (drop size_pr bytes.now)) (ends_after l k)) }
+    ensures { outcome_of result
+        ≡ reading (and_then (read_threads l k t (drop size_pr bytes.now)) (ends_after l k)) }
 {
-    let count = t as usize;
-    let mut header = no_header();
-    header.threads = count;
-    header.values = k as usize;
+    let mut header = Header {
+        threads: usize::from(t),
+        locations: usize::from(l),
+        values: usize::from(k),
+        starts: [0; limits::THREADS],
+        counts: [0; limits::THREADS],
+    };
     let mut fenced = false;
-    let mut next: usize = PR_SIZE;
-    let mut i: usize = 0;
-    while i < count {
-        let thread = read_thread(bytes, next, l, k);
-        match thread {
-            Thread::Faulty(number) => {
-                return refused(number);
-            }
-            Thread::Lines { n, fence } => {
-                let lines = n as usize;
-                header.starts[i] = (next + TH_SIZE) as u16;
-                header.counts[i] = n as u16;
-                fenced = fenced | fence;
-                next = next + TH_SIZE + lines * IN_SIZE;
-                i = i + 1;
-            }
-        }
+    let mut next = PR_SIZE;
+    for i in 0..header.threads {
+        let lines = read_thread(bytes, next, l, k)?;
+        header.starts[i] = (next + TH_SIZE) as u16;
+        header.counts[i] = u16::from(lines.count);
+        fenced |= lines.fenced;
+        next += TH_SIZE + usize::from(lines.count) * IN_SIZE;
     }
     if next < bytes.len() {
-        return refused(9);
+        return Err(Refusal::MoreBytes);
     }
-    header.locations = all_locations(l, fenced);
-    Reading {
-        check: Check::Passed,
-        header,
-    }
+    header.locations += usize::from(fenced);
+    Ok(header)
 }

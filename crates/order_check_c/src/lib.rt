@@ -7,7 +7,6 @@ ghost use Rattle.checker.specs.Indexed.{index_after};
 ghost use Rattle.order_check_c.specs.Answer.{ending_numbers, numbers_of, Told};
 
 use checker::{check, check_indexed};
-use program::kind_number;
 use rules::Ending;
 use verdicts::Report;
 
@@ -15,14 +14,13 @@ use verdicts::Report;
 fn numbers_of_ending(count: usize, steps: usize, ending: Ending) -> [u64; 8]
     ensures { result ≡ ending_numbers count steps ending }
 {
-    let kind = ending.kind;
     [
         1,
         0,
         count as u64,
         steps as u64,
         ending.thread as u64 + 1,
-        kind_number(kind) as u64,
+        u8::from(ending.kind) as u64,
         ending.location as u64,
         ending.value as u64,
     ]

@@ -1,99 +1,95 @@
 -- The exported answers, from what the reader ensures.
-use Prim.Native.Nat.{ℕ, ◌≤◌, ◌<◌}
+use Prim.Native.Nat.{ℕ, ◌+◌, ◌*◌, ◌≤◌, ◌<◌}
 use native.Mathlib.Omega.{arith}
 use mathlib.Core.Path.{◌≡◌, refl, ap, sym, ◌∙◌}
 use mathlib.Core.List.{List}
 use lib.ListN.{length, get_or}
 use borrow.Author.Tests.{lt-ltb, le-ltb}
-use Rattle.program.specs.Program.{Program, lines_of}
+use Rattle.program.specs.Program.{Line, Program, lines_of}
 use Rattle.program.specs.Program.Operand.{constant}
 use Rattle.program.specs.Program.Line.{wait}
+use Rattle.limits.specs.Limits.{max_threads}
 use Rattle.program.specs.Outcome.{Outcome}
 use Rattle.program.specs.Outcome.Outcome.{refused, accepted}
-use Rattle.program.specs.Format.{size_pr, read_program, program_of}
+use Rattle.program.specs.Format.{size_pr, size_in, read_program, program_of}
 use Rattle.program.proofs.RoundTrip.{named_in_header}
-use Rattle.format.specs.Answer.{Accepted, reading}
-use Rattle.format.specs.declared.Check.TheVariants.{Passed, Failed}
+use Rattle.std.specs.Prelude.{Ok}
+use Rattle.program.specs.Outcome.{told}
+use Rattle.format.specs.Answer.{Accepted, LineAt, header_of}
 use Rattle.format.specs.declared.Header.{Header}
-use Rattle.format.specs.declared.Reading.{Reading}
-use Rattle.format.proofs.AcceptedHeader.{passed_is_accepted, threads_counted, lines_counted}
-use Rattle.order_read_c.specs.Answer.{number_of, named_in, with_header, header_answer}
+use Rattle.format.proofs.Turns.{is_refused}
+use Rattle.format.proofs.AcceptedHeader.{read_is_accepted, accepted_within, threads_counted}
+use Rattle.format.proofs.AcceptedHeader.{lines_counted, line_counted, line_inside}
+use Rattle.order_read_c.specs.Answer.{with_header, refused_answer, header_answer}
 use Rattle.order_read_c.specs.Answer.{no_line, line_fields, line_answer}
-use Rattle.order_read_c.specs.declared.HeaderAnswer.{HeaderAnswer}
-use Rattle.order_read_c.specs.declared.LineAnswer.{LineAnswer}
 
-header_of_outcome : (o : Outcome Program) → with_header (number_of (reading o).check) (named_in o)
-    (reading o).header ≡ header_answer o
-unfolding reading number_of named_in header_answer
-header_of_outcome (refused k) = refl
-header_of_outcome (accepted p) = refl
+-- A refused input has its number, and no line.
+module _ (bytes : List ℕ) {number : ℕ} (e : refused number ≡ told header_of (read_program bytes)) where
+  pub refusal_answered : header_answer (read_program bytes) ≡ refused_answer number
+  unfolding header_answer
+  refusal_answered = rw (is_refused header_of (read_program bytes) (sym e))
 
-pub header_answered : (bytes : List ℕ) (r : Reading) → r ≡ reading (read_program bytes)
-    → with_header (number_of r.check) (named_in (read_program bytes)) r.header ≡ header_answer (read_program bytes)
-header_answered bytes r e =
-    ap (λ (x : Reading). with_header (number_of x.check) (named_in (read_program bytes)) x.header) e
-    ∙ header_of_outcome (read_program bytes)
-
--- Where the check passed, byte 3 is L.
-pub named_stands : (bytes : List ℕ) → (reading (read_program bytes)).check ≡ Passed
-    → (size_pr ≤ length bytes) × (get_or bytes 3 0 ≡ named_in (read_program bytes))
-unfolding named_in
-named_stands bytes passed =
-    let is = passed_is_accepted bytes (reading (read_program bytes)) refl passed in
-    let (whole, named) = named_in_header bytes (program_of bytes) is.program in
-    (whole, named ∙ sym (ap named_in is.program))
-
--- Where it failed, L is 0.
-pub none_named : (o : Outcome Program) {k : ℕ} → (reading o).check ≡ Failed k → 0 ≡ named_in o
-unfolding reading named_in
-none_named (refused k) e = refl
-none_named (accepted p) e = absurd (let z : ◌≡◌ {A = ℕ} 0 1 = cc in omega arith)
-
-none_of_outcome : (o : Outcome Program) (t i : ℕ) {k : ℕ} → (reading o).check ≡ Failed k → no_line ≡ line_answer o t i
-unfolding reading line_answer
-none_of_outcome (refused k) t i e = refl
-none_of_outcome (accepted p) t i e = absurd (let z : ◌≡◌ {A = ℕ} 0 1 = cc in omega arith)
-
--- A refused input has no line.
-pub none_answered : (bytes : List ℕ) (r : Reading) (t i : ℕ) {k : ℕ} → r ≡ reading
-    (read_program bytes) → r.check ≡ Failed k
-    → no_line ≡ line_answer (read_program bytes) t i
-none_answered bytes r t i e failed =
-    none_of_outcome (read_program bytes) t i (ap (λ (x : Reading). x.check) (sym e) ∙ failed)
-
-module _ {bytes : List ℕ} {h : Header} (is : Accepted bytes h) (t i : ℕ) where
-  answer_is : line_answer (read_program bytes) t i ≡ line_answer (accepted (program_of bytes)) t i
-  answer_is = ap (λ (o : Outcome Program). line_answer o t i) is.program
-
-  pub thread_missing : h.threads ≤ t → no_line ≡ line_answer (read_program bytes) t i
+  pub none_answered : (t i : ℕ) → line_answer (read_program bytes) t i ≡ no_line
   unfolding line_answer
-  thread_missing past =
-      sym (answer_is ∙ rw (le-ltb t (length (program_of bytes).threads) (omega (
-        arith,
-        threads_counted bytes h is,
-      ))))
+  none_answered t i = rw (is_refused header_of (read_program bytes) (sym e))
 
-  module _ (there : t < h.threads) where
-    pub thread_there : t < length (program_of bytes).threads
-    thread_there = omega (arith, threads_counted bytes h is)
+module _ (bytes : List ℕ) {h : Header} (e : accepted h ≡ told header_of (read_program bytes)) where
+  is : Accepted bytes h
+  is = read_is_accepted bytes (Ok h) e refl
 
-    pub line_missing : get_or h.counts t 0 ≤ i → no_line ≡ line_answer (read_program bytes) t i
+  -- The header of an accepted input is whole, with L in byte 3.
+  pub header_whole : size_pr ≤ length bytes
+  header_whole = (named_in_header bytes (program_of bytes) is.program).0
+
+  pub header_answered : header_answer (read_program bytes) ≡ with_header 0 (get_or bytes 3 0) h
+  unfolding header_answer
+  header_answered =
+      rw (is.program, (named_in_header bytes (program_of bytes) is.program).1, is.header)
+
+  module _ (t i : ℕ) where
+    answer_is : line_answer (read_program bytes) t i ≡ line_answer (accepted (program_of bytes)) t i
+    answer_is = ap (λ (o : Outcome Program). line_answer o t i) is.program
+
+    -- A thread past the last one has no line.
+    pub thread_missing : h.threads ≤ t → line_answer (read_program bytes) t i ≡ no_line
     unfolding line_answer
-    line_missing past =
-        sym (answer_is ∙ rw (
-          lt-ltb t (length (program_of bytes).threads) thread_there,
-          le-ltb i (length (lines_of (program_of bytes) t)) (omega (arith, lines_counted bytes h is t thread_there)),
-        ))
+    thread_missing past =
+        answer_is ∙ rw (le-ltb t (length (program_of bytes).threads) (omega (arith, threads_counted bytes h is)))
 
-    line_there : i < get_or h.counts t 0 → i < length (lines_of (program_of bytes) t)
-    line_there less = omega (arith, lines_counted bytes h is t thread_there)
+    module _ (there : t < h.threads) where
+      -- A thread that the program has is one of the limits.
+      pub thread_in_limits : t < max_threads
+      thread_in_limits = omega (arith, threads_counted bytes h is, (accepted_within bytes h is).few_threads)
 
-    pub line_answered : i < get_or h.counts t 0
-        → line_fields (get_or (lines_of (program_of bytes) t) i (wait 0 (constant 0))) ≡ line_answer
-        (read_program bytes) t i
-    unfolding line_answer
-    line_answered less =
-        sym (answer_is ∙ rw (
-          lt-ltb t (length (program_of bytes).threads) thread_there,
-          lt-ltb i (length (lines_of (program_of bytes) t)) (line_there less),
-        ))
+      thread_there : t < length (program_of bytes).threads
+      thread_there = omega (arith, threads_counted bytes h is)
+
+      -- A line past the last one is none.
+      pub line_missing : get_or h.counts t 0 ≤ i → line_answer (read_program bytes) t i ≡ no_line
+      unfolding line_answer
+      line_missing past =
+          answer_is ∙ rw (
+            lt-ltb t (length (program_of bytes).threads) thread_there,
+            le-ltb i (length (lines_of (program_of bytes) t)) (omega (arith, lines_counted bytes h is t thread_there)),
+          )
+
+      module _ (less : i < get_or h.counts t 0) where
+        pub line_stands : get_or h.starts t 0 + i * size_in + size_in ≤ length bytes
+        line_stands = line_inside bytes h is there less
+
+        -- A line that line_at finds is the answer's.
+        pub line_answered : (found : Line)
+            → ((t' : ℕ) → LineAt bytes (get_or h.starts t 0) h.values i t' → (other : Line)
+            → found ≡ get_or (lines_of (program_of bytes) t') i other)
+            → line_answer (read_program bytes) t i ≡ line_fields found
+        unfolding line_answer
+        line_answered found finds =
+            rw (finds t (line_counted bytes h is there less) (wait 0 (constant 0))) (answer_is ∙ rw (
+              lt-ltb t (length (program_of bytes).threads) thread_there,
+              lt-ltb i (length (lines_of (program_of bytes) t)) (omega (arith, lines_counted bytes h is t thread_there)),
+            ))
+
+pub ruleset header_read = (refusal_answered, header_whole, header_answered)
+
+pub ruleset line_read =
+    (none_answered, thread_missing, thread_in_limits, line_missing, line_stands, line_answered)

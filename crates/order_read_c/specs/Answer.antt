@@ -1,28 +1,17 @@
 -- The answers of the exported reader, from the outcome of the definition.
-use Rattle.std.specs.Prelude.{ℕ, Bool, cond, ◌&&◌, List, length, get_or, ltb}
+use Rattle.std.specs.Prelude.{ℕ, cond, ◌&&◌, length, get_or, replicate, ltb}
 use Rattle.program.specs.Program.{Operand, Line, Program, lines_of, named_locations}
 use Rattle.program.specs.Program.Operand.{constant, register}
 use Rattle.program.specs.Program.Line.{sum, equal, less, jump, write, read, fadd, cas, wait, bcas, fence}
 use Rattle.program.specs.Ops.{fence_op}
 use Rattle.program.specs.Outcome.{Outcome}
 use Rattle.program.specs.Outcome.Outcome.{refused, accepted}
-use Rattle.format.specs.Answer.{no_header, header_of}
-use Rattle.format.specs.declared.Check.{Check}
-use Rattle.format.specs.declared.Check.TheVariants.{Passed, Failed}
+use Rattle.limits.specs.Limits.{max_threads}
+use Rattle.format.specs.Answer.{header_of}
 use Rattle.format.specs.declared.Header.{Header}
 use Rattle.order_read_c.specs.declared.HeaderAnswer.{HeaderAnswer}
 use Rattle.order_read_c.specs.declared.OperandAnswer.{OperandAnswer}
 use Rattle.order_read_c.specs.declared.LineAnswer.{LineAnswer}
-
--- 0 where the checks passed, else the number of the one that failed.
-unfoldable pub number_of : Check → ℕ
-number_of Passed = 0
-number_of (Failed number) = number
-
--- L, the number of the named locations; 0 where the input is refused.
-unfoldable pub named_in : Outcome Program → ℕ
-named_in (refused number) = 0
-named_in (accepted p) = named_locations p
 
 -- The number, L, and the rest of the header.
 abbrev pub with_header : (number L : ℕ) → Header → HeaderAnswer
@@ -36,8 +25,21 @@ with_header number L h =
       counts = h.counts;
     }
 
+-- The number of the check that failed, and 0 in the rest.
+abbrev pub refused_answer : ℕ → HeaderAnswer
+refused_answer number =
+    record {
+      number = number;
+      threads = 0;
+      locations = 0;
+      values = 0;
+      starts = replicate max_threads 0;
+      counts = replicate max_threads 0;
+    }
+
+-- 0 where no check failed, and L is the number of the named locations.
 unfoldable pub header_answer : Outcome Program → HeaderAnswer
-header_answer (refused number) = with_header number 0 no_header
+header_answer (refused number) = refused_answer number
 header_answer (accepted p) = with_header 0 (named_locations p) (header_of p)
 
 -- An operand: kind 1 for a constant, 2 for a register; kind 0 for none.

@@ -3,11 +3,11 @@
 
 ghost use Rattle.std.specs.Prelude.{◌≡◌};
 ghost use Rattle.program.specs.Format.{read_program};
-ghost use Rattle.format.specs.Answer.{reading, operand_means, line_means};
-ghost use Rattle.order_read_c.specs.Answer.{number_of, named_in, header_answer, no_operand, operand_answer};
+ghost use Rattle.format.specs.Answer.{operand_means, line_means};
+ghost use Rattle.order_read_c.specs.Answer.{header_answer, no_operand, operand_answer};
 ghost use Rattle.order_read_c.specs.Answer.{make_line, no_line, line_fields, line_answer};
 
-use format::{Check, Line, Operand};
+use format::{Line, Operand};
 
 // The answer of order_read: the number of the failed check, or 0 and the program's header.
 #[repr(C)]
@@ -32,7 +32,8 @@ pub struct OperandAnswer {
     pub number: usize,
 }
 
-// The answer of order_line: the line's op and fields, and 0 in the fields that it does not use; op 0 where there is no such line.
+// The answer of order_line: the line's op and fields, and 0 in the fields that it does not use; op 0 where there is no
+// such line.
 #[repr(C)]
 #[derive(Clone, Copy)]
 pub struct LineAnswer {
@@ -43,59 +44,37 @@ pub struct LineAnswer {
     pub b: OperandAnswer,
 }
 
-fn failed(check: Check) -> usize
-    ensures { result ≡ number_of check }
-{
-    match check {
-        Check::Passed => 0,
-        Check::Failed(number) => number as usize,
-    }
-}
-
 // Short numbers as long ones.
 fn widened(short: [u16; limits::THREADS]) -> [usize; limits::THREADS]
     ensures { result ≡ short }
 {
-    let mut long = [0usize; limits::THREADS];
-    let mut i = 0;
-    while i < limits::THREADS {
-        long[i] = short[i] as usize;
-        i += 1;
-    }
-    long
-}
-
-// L of an input with its check: the locations that the header names.
-fn named_in(program: &[u8], check: Check) -> usize
-    requires { check ≡ (reading (read_program program.now)).check }
-    ensures { result ≡ named_in (read_program program.now) }
-{
-    match check {
-        Check::Passed => program[3] as usize,
-        Check::Failed(_) => 0,
-    }
+    short.map(|number| usize::from(number))
 }
 
 // Reads any input.
+#[tactic(auto, using(crate::proofs::Answers::header_read))]
 #[unsafe(no_mangle)]
 pub extern "C" fn order_read(program: &[u8]) -> HeaderAnswer
     ensures { result ≡ header_answer (read_program program.now) }
 {
-    let reading = format::read(program);
-    let check = reading.check;
-    let header = reading.header;
-    let named = named_in(program, check);
-    let short_starts = header.starts;
-    let short_counts = header.counts;
-    let starts = widened(short_starts);
-    let counts = widened(short_counts);
-    HeaderAnswer {
-        number: failed(check),
-        threads: header.threads,
-        locations: named,
-        values: header.values,
-        starts,
-        counts,
+    match format::read(program) {
+        Ok(header) => HeaderAnswer {
+            number: 0,
+            threads: header.threads,
+            // The header's own count has the fence's location too.
+            locations: usize::from(program[3]),
+            values: header.values,
+            starts: widened(header.starts),
+            counts: widened(header.counts),
+        },
+        Err(refusal) => HeaderAnswer {
+            number: usize::from(u8::from(refusal)),
+            threads: 0,
+            locations: 0,
+            values: 0,
+            starts: [0; limits::THREADS],
+            counts: [0; limits::THREADS],
+        },
     }
 }
 
@@ -105,6 +84,7 @@ fn no_operand() -> OperandAnswer
     OperandAnswer { kind: 0, number: 0 }
 }
 
+#[tactic(auto, unfolding(crate::specs::Answer::operand_answer, format::specs::Answer::operand_means))]
 fn operand_of(x: Operand) -> OperandAnswer
     ensures { result ≡ operand_answer (operand_means x) }
 {
@@ -129,6 +109,7 @@ fn make_line(op: usize, reg: usize, target: usize, a: OperandAnswer, b: OperandA
     }
 }
 
+#[tactic(auto, unfolding(crate::specs::Answer::line_fields, format::specs::Answer::line_means))]
 fn fields_of(line: Line) -> LineAnswer
     ensures { result ≡ line_fields (line_means line) }
 {
@@ -161,25 +142,21 @@ fn no_line() -> LineAnswer
 }
 
 // Line number `line` of thread number `thread`, both from 0, of any input.
+#[tactic(auto, using(crate::proofs::Answers::line_read))]
 #[unsafe(no_mangle)]
 pub extern "C" fn order_line(program: &[u8], thread: usize, line: usize) -> LineAnswer
     ensures { result ≡ line_answer (read_program program.now) thread line }
 {
-    let reading = format::read(program);
-    let check = reading.check;
-    let header = reading.header;
-    let counts = header.counts;
-    match check {
-        Check::Failed(_) => no_line(),
-        Check::Passed => {
-            if header.threads <= thread {
-                return no_line();
-            }
-            if counts[thread] as usize <= line {
-                return no_line();
-            }
-            let starts = header.starts;
-            fields_of(format::line_at(program, starts[thread] as usize, header.values, line))
-        }
+    let Ok(header) = format::read(program) else {
+        return no_line();
+    };
+    if header.threads <= thread || usize::from(header.counts[thread]) <= line {
+        return no_line();
     }
+    fields_of(format::line_at(
+        program,
+        usize::from(header.starts[thread]),
+        header.values,
+        line,
+    ))
 }

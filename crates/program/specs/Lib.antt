@@ -4,6 +4,7 @@ pub mod ThreadNumber
 pub mod Steps
 pub mod Within
 pub mod Outcome
+pub mod Number
 pub mod Ops
 pub mod Format
 pub mod Spelling

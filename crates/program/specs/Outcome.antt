@@ -15,3 +15,8 @@ check number false rest = refused number
 unfoldable pub and_then : {A B : Type 0} → Outcome A → (A → Outcome B) → Outcome B
 and_then (refused number) rest = refused number
 and_then (accepted a) rest = rest a
+
+-- What is told of what was read.
+unfoldable pub told : {A B : Type 0} → (A → B) → Outcome A → Outcome B
+told tell (refused number) = refused number
+told tell (accepted a) = accepted (tell a)

@@ -1,3 +1,2 @@
 pub mod AtCursor
 pub mod RowTests
-pub mod FirstRow

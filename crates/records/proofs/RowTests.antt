@@ -1,39 +1,56 @@
 -- Checks 6 to 8 of a line, said of the row that the code has in place of the op.
-use mathlib.Core.Path.{◌≡◌, refl, ap, ◌∙◌}
-use mathlib.Core.Bool.{◌&&◌}
-use lib.Dec.{ltb}
+use mathlib.Core.Path.{◌≡◌, refl}
+use mathlib.Core.Bool.{true, not, ◌&&◌, ◌||◌}
+use lib.Dec.{ltb, leb, eqb}
+use Rattle.std.specs.Prelude.{Some, None, is_some}
 use Rattle.limits.specs.Limits.{registers}
-use Rattle.program.specs.Ops.{op_at, Target as OpTarget}
+use Rattle.program.specs.Ops.{Op, Target as OpTarget}
 use Rattle.program.specs.Ops.Target.{no_target, to_location, to_line}
-use Rattle.program.specs.Format.{when_used, zero_unless_used, uses_target, is_reg_and_rest, is_operand, are_operands}
-use Rattle.records.specs.Fields.{target_means, target_of, row_of}
-use Rattle.records.specs.declared.Fields.{Fields}
-use Rattle.records.specs.declared.Row.{Row}
+use Rattle.program.specs.Format.{when_used, zero_unless_used, uses_target, is_target}
+use Rattle.program.specs.Format.{is_reg_and_rest, is_operand, are_operands}
+use Rattle.records.specs.Fields.{target_of, row_of}
+use Rattle.records.specs.declared.Target.TheVariants.{Location, Line}
 use Prim.Native.Nat.{ℕ}
 
-pub target_back : (t : OpTarget) → target_means (target_of t) ≡ t
-unfolding target_means target_of
-target_back no_target = refl
-target_back to_location = refl
-target_back to_line = refl
+-- A target is used where the row has one.
+pub target_used : (t : OpTarget) → uses_target t ≡ is_some (target_of t)
+unfolding uses_target
+target_used no_target = refl
+target_used to_location = refl
+target_used to_line = refl
 
--- The target that a row has is its op's.
-pub target_of_row : (r : Row) (op : ℕ) → r ≡ row_of (op_at op) → target_means r.target ≡ (op_at op).target
-unfolding row_of
-target_of_row r op e = ap (λ (x : Row). target_means x.target) e ∙ target_back (op_at op).target
+-- Check 6, test by test.
+pub five_tests : (o : Op) (reg target a b : ℕ) → is_reg_and_rest o reg target a b
+    ≡ ((not (row_of o).reg || ltb reg registers)
+    && (((row_of o).reg || eqb reg 0)
+    && ((is_some (row_of o).target || eqb target 0)
+    && (((row_of o).a || eqb a 0) && ((row_of o).b || eqb b 0)))))
+unfolding is_reg_and_rest when_used zero_unless_used
+five_tests o reg target a b = rw (target_used o.target)
 
-module _ (r : Row) (f : Fields) (e : r ≡ row_of (op_at f.op)) where
-  -- Check 6, test by test.
-  pub five_tests : is_reg_and_rest (op_at f.op) f.reg f.target f.a f.b
-      ≡ (when_used r.reg (ltb f.reg registers)
-      && (zero_unless_used r.reg f.reg
-      && (zero_unless_used (uses_target (target_means r.target)) f.target
-      && (zero_unless_used r.a f.a && zero_unless_used r.b f.b))))
-  unfolding is_reg_and_rest row_of
-  five_tests = rw (e, target_back (op_at f.op).target)
+-- Check 8, test by test.
+pub two_tests : (o : Op) (k a b : ℕ) → are_operands o k a b
+    ≡ ((not (row_of o).a || is_operand k a) && (not (row_of o).b || is_operand k b))
+unfolding are_operands when_used
+two_tests o k a b = refl
 
-  -- Check 8, test by test.
-  pub two_tests : (k : ℕ) → are_operands (op_at f.op) k f.a f.b ≡ (when_used r.a (is_operand k
-      f.a) && when_used r.b (is_operand k f.b))
-  unfolding are_operands row_of
-  two_tests k = rw e
+-- Check 7, by what the row's target names.
+pub none_tested : (t : OpTarget) (l n x : ℕ) → target_of t ≡ None → is_target t l n x ≡ true
+unfolding is_target
+none_tested no_target l n x e = refl
+none_tested to_location l n x e = absurd cc
+none_tested to_line l n x e = absurd cc
+
+pub location_tested : (t : OpTarget) (l n x : ℕ) → target_of t ≡ Some Location → is_target t l n x ≡ ltb x l
+unfolding is_target
+location_tested no_target l n x e = absurd cc
+location_tested to_location l n x e = refl
+location_tested to_line l n x e = absurd cc
+
+pub line_tested : (t : OpTarget) (l n x : ℕ) → target_of t ≡ Some Line → is_target t l n x ≡ leb x n
+unfolding is_target
+line_tested no_target l n x e = absurd cc
+line_tested to_location l n x e = absurd cc
+line_tested to_line l n x e = refl
+
+pub ruleset targets_tested = (none_tested, location_tested, line_tested)

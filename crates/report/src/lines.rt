@@ -5,7 +5,7 @@ ghost use Rattle.report.specs.Text.{decimal, space, line, letter_of, mark_nr, st
 ghost use Rattle.report.specs.Text.{ending_line, longest_line};
 
 use crate::put::{put_byte, put_bytes, put_field};
-use program::{STEP_SIZE, kind_number};
+use program::STEP_SIZE;
 use rules::Ending;
 
 // A line of a mark and one number.
@@ -96,8 +96,7 @@ pub fn put_ending(out: &mut [u8], count: usize, steps: usize, ending: Ending) ->
     ensures put { Put out.old 0 (ending_line count steps ending) out.new result }
     ensures short { length (ending_line count steps ending) ≤ longest_line }
 {
-    let kind = ending.kind;
     let thread = ending.thread as usize + 1;
     let next = put_run(out, count, steps, thread);
-    put_access(out, next, kind_number(kind), ending.location, ending.value)
+    put_access(out, next, u8::from(ending.kind), ending.location, ending.value)
 }

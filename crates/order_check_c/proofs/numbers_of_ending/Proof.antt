@@ -7,7 +7,7 @@ use Rattle.order_check_c.proofs.numbers_of_ending.Tie as tie
 returns : tie.Need-returns
 returns c = let at = c.before in
     let a = at.args in
-    witness_numbers a.count a.steps a.ending at.kind_number.ensures
+    witness_numbers a.count a.steps a.ending at.from.ensures
 
 pub numbers_of_ending_spec : {M : Type 1} → statement M
 numbers_of_ending_spec = tie.close
