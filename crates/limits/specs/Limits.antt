@@ -17,6 +17,10 @@ min_values = 2
 abbrev pub max_values : ℕ
 max_values = 16
 
+-- "one bit for each member", locations or values, in two bytes
+abbrev pub max_members : ℕ
+max_members = 16
+
 -- "a thread of n lines, 0 to 64"
 abbrev pub max_lines : ℕ
 max_lines = 64

@@ -4,18 +4,14 @@
 // Threads of a program at most.
 pub const THREADS: usize = 8;
 
-// Locations of a program at most, and the type of a set of them: one bit for each.
+// Locations of a program at most.
 pub const LOCATIONS: usize = 16;
-
-pub type LocSet = u16;
 
 // Values of a location at least.
 pub const MIN_VALUES: usize = 2;
 
-// Values of a location at most, and the type of a set of them: one bit for each.
+// Values of a location at most.
 pub const VALUES: usize = 16;
-
-pub type ValSet = u16;
 
 // Lines of a thread at most.
 pub const LINES: usize = 64;
