@@ -26,36 +26,6 @@ const INDEX: usize = 4096;
 // Room for the longest text: a line of at most 76 bytes, and one of at most 17 for each step that the trace can have.
 const TEXT: usize = 76 + 17 * (TRACE / STEP_SIZE);
 
-fn input_buffer() -> [u8; INPUT]
-    ensures { 4096 ≡ length result }
-{
-    [0; INPUT]
-}
-
-fn table() -> [u8; TABLE]
-    ensures { 49152 ≡ length result }
-{
-    [0; TABLE]
-}
-
-fn trace_buffer() -> [u8; TRACE]
-    ensures { 8192 ≡ length result }
-{
-    [0; TRACE]
-}
-
-fn index() -> [u64; INDEX]
-    ensures { 4096 ≡ length result }
-{
-    [0; INDEX]
-}
-
-fn text_buffer() -> [u8; TEXT]
-    ensures { 34892 ≡ length result }
-{
-    [0; TEXT]
-}
-
 // Reads until the buffer is full or the input ends, which one read tells; how many bytes were read. Nothing says that
 // an input ends, so the turns are counted, to a number that no run uses up.
 fn fill<R: Read>(reader: &mut R, buffer: &mut [u8]) -> Result<usize>
@@ -95,7 +65,8 @@ fn read_input<R: Read>(reader: &mut R, buffer: &mut [u8]) -> Result<usize>
     Ok(kept)
 }
 
-// Checks the program that was kept and lays the report's text in the buffer; how many bytes of it are text.
+// Checks the program that was kept and lays the report's text in the buffer; how many bytes of it are text. The input's
+// buffer is lent whole, since the promise speaks of its length: what was kept is all of the input where it is shorter.
 fn print(
     input: &[u8],
     kept: usize,
@@ -114,15 +85,15 @@ fn print(
 }
 
 fn main(rt: HostRuntime) -> ExitCode {
-    let mut input = input_buffer();
+    let mut input = [0; INPUT];
     let Ok(kept) = read_input(&mut rt.stdin(), &mut input) else {
         let _ = eprintln!(rt; "order_check: standard input can't be read to its end");
         return ExitCode::FAILURE;
     };
-    let mut places = table();
-    let mut trace = trace_buffer();
-    let mut slots = index();
-    let mut lines = text_buffer();
+    let mut places = [0; TABLE];
+    let mut trace = [0; TRACE];
+    let mut slots = [0; INDEX];
+    let mut lines = [0; TEXT];
     let length = print(
         &input,
         kept,

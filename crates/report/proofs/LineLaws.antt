@@ -1,11 +1,14 @@
 -- Lines as they are printed, field after field, and one after another.
-use Prim.Native.Nat.{ℕ, zero, suc, ◌+◌, ◌*◌, ◌/◌, ◌≤◌, ◌<◌}
+use Prim.Native.Nat.{ℕ, zero, suc, ◌+◌, ◌*◌, ◌/◌, ◌≤◌, ◌<◌, min}
+use native.Mathlib.Decide.{dec_le}
 use native.Mathlib.Nat.{suc-mul}
 use native.Mathlib.Numerals.{add-one, towards_suc}
 use native.Mathlib.Omega.{arith}
 use mathlib.Core.Path.{◌≡◌, refl, ap, sym, ◌∙◌}
 use mathlib.Core.List.{List, [], ◌∷◌, ◌++◌, append_assoc, append-nil}
-use lib.ListN.{length, get_or}
+use lib.ListN.{length, get_or, take, drop}
+use lib.Seq.{get_or-take, get_or-drop, drop-drop}
+use Rattle.std.specs.Simd.{first_chunks}
 use Rattle.report.specs.Put.{Put}
 use Rattle.program.specs.Steps.{step_size, kind_number}
 use Rattle.rules.specs.declared.Ending.{Ending}
@@ -105,3 +108,44 @@ module _ {d : List ℕ} {at : ℕ} (trace : List ℕ) where
   pub steps_put : {i steps : ℕ} {e : List ℕ} {next : ℕ} → Put d at (step_lines i trace) e next
       → length trace / step_size ≤ i → i ≤ steps → Put d at (step_lines steps trace) e next
   steps_put {i} {steps} p h k = put_as (no_more_steps i steps trace h k) p
+
+  -- As many as there are whole steps.
+  pub whole_steps_put : {i : ℕ} (steps : ℕ) {e : List ℕ} {next : ℕ} → Put d at (step_lines i trace) e next
+      → i ≡ min steps (length trace / step_size) → Put d at (step_lines steps trace) e next
+  whole_steps_put {i} steps {e} {next} p is = go (dec_le steps (length trace / step_size))
+    where
+      go : Dec (steps ≤ length trace / step_size) → Put d at (step_lines steps trace) e next
+      go (yes some) = let all : i ≡ steps = omega arith in rw all at p
+      go (no more) = steps_put p (omega arith) (omega arith)
+
+-- The bytes of a step, as the library cuts a trace into steps.
+step_bytes_at : (n i : ℕ) (trace : List ℕ) → i < n
+    → get_or (first_chunks step_size n trace) i [] ≡ take step_size (drop (i * step_size) trace)
+step_bytes_at zero i trace h = absurd (omega arith)
+step_bytes_at (suc n) zero trace h = refl
+step_bytes_at (suc n) (suc i) trace h =
+    let more : suc i * step_size ≡ step_size + i * step_size = omega arith in
+    step_bytes_at n i (drop step_size trace) (omega arith) ∙ rw (drop-drop, more)
+
+module _ {steps : List (List ℕ)} (n m i : ℕ) (trace : List ℕ) (cut : steps ≡ first_chunks step_size n trace)
+    (some : i < m) (inside : i < n) where
+  byte_at : (j : ℕ) → j < step_size → get_or (get_or (take m steps) i []) j 0 ≡ get_or trace (i * step_size + j) 0
+  byte_at j h =
+      ap (λ (l : List ℕ). get_or l j 0)
+      (get_or-take m steps i [] some ∙ ap (λ (l : List (List ℕ)). get_or l i []) cut ∙ step_bytes_at n i trace inside)
+      ∙ get_or-take step_size (drop (i * step_size) trace) j 0 h
+      ∙ get_or-drop (i * step_size) trace j 0
+
+  pub line_put : {e f : List ℕ} {next last : ℕ}
+      → Put e next
+      (step_line (get_or (get_or (take m steps) i []) 0 0) (get_or (get_or (take m steps) i []) 1 0)
+      (get_or (get_or (take m steps) i []) 2 0) (get_or (get_or (take m steps) i []) 3 0))
+      f last
+      → Put e next (line_at trace (i * step_size)) f last
+  line_put p =
+      let from : i * step_size + 0 ≡ i * step_size = omega arith in
+      let first = byte_at 0 (omega arith) ∙ ap (λ (k : ℕ). get_or trace k 0) from in
+      let second = byte_at 1 (omega arith) in
+      let third = byte_at 2 (omega arith) in
+      let fourth = byte_at 3 (omega arith) in
+      put_as (let e : line_at trace (i * step_size) ≡ step_line (get_or (get_or (take m steps) i []) 0 0) (get_or (get_or (take m steps) i []) 1 0) (get_or (get_or (take m steps) i []) 2 0) (get_or (get_or (take m steps) i []) 3 0) = cc in e) p

@@ -62,19 +62,10 @@ fn put_step(out: &mut [u8], at: usize, thread: u8, kind: u8, location: u8, value
 pub fn put_steps(out: &mut [u8], at: usize, trace: &[u8], steps: usize) -> usize
     ensures { Put out.old at (step_lines steps trace.now) out.new result }
 {
+    let (whole, _) = trace.as_chunks::<STEP_SIZE>();
     let mut next = at;
-    let mut i: usize = 0;
-    while i < steps && i < trace.len() / STEP_SIZE {
-        let from = i * STEP_SIZE;
-        next = put_step(
-            out,
-            next,
-            trace[from],
-            trace[from + 1],
-            trace[from + 2],
-            trace[from + 3],
-        );
-        i = i + 1;
+    for [thread, kind, location, value] in &whole[..steps.min(whole.len())] {
+        next = put_step(out, next, *thread, *kind, *location, *value);
     }
     next
 }

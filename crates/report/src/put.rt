@@ -18,10 +18,8 @@ pub fn put_bytes(out: &mut [u8], at: usize, bytes: &[u8]) -> usize
     ensures { Put out.old at bytes.now out.new result }
 {
     let mut next = at;
-    let mut i: usize = 0;
-    while i < bytes.len() {
-        next = put_byte(out, next, bytes[i]);
-        i = i + 1;
+    for byte in bytes {
+        next = put_byte(out, next, *byte);
     }
     next
 }
