@@ -72,7 +72,8 @@ line_fields (wait x a) = make_line 9 0 x (operand_answer a) no_operand
 line_fields (bcas x a b) = make_line 10 0 x (operand_answer a) (operand_answer b)
 line_fields fence = make_line fence_op 0 0 no_operand no_operand
 
--- Line i of thread t, where the program is accepted and has one. (The line that get_or would give past the end is never taken.)
+-- Line i of thread t, where the program is accepted and has one. (The line that get_or would give past the end is never
+-- taken.)
 unfoldable pub line_answer : Outcome Program → (t i : ℕ) → LineAnswer
 line_answer (refused number) t i = no_line
 line_answer (accepted p) t i =

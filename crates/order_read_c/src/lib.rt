@@ -91,7 +91,7 @@ fn operand_of(x: Operand) -> OperandAnswer
     match x {
         Operand::Constant(v) => OperandAnswer {
             kind: 1,
-            number: v as usize,
+            number: usize::from(v),
         },
         Operand::Register(r) => OperandAnswer { kind: 2, number: r },
     }
@@ -118,7 +118,7 @@ fn fields_of(line: Line) -> LineAnswer
         Line::Sum { reg, a, b } => make_line(1, reg, 0, operand_of(a), operand_of(b)),
         Line::Equal { reg, a, b } => make_line(2, reg, 0, operand_of(a), operand_of(b)),
         Line::Less { reg, a, b } => make_line(3, reg, 0, operand_of(a), operand_of(b)),
-        Line::Jump { target, a } => make_line(4, 0, target as usize, operand_of(a), none),
+        Line::Jump { target, a } => make_line(4, 0, usize::from(target), operand_of(a), none),
         Line::Write { location, a } => make_line(5, 0, location, operand_of(a), none),
         Line::Read { reg, location } => make_line(6, reg, location, none, none),
         Line::Fadd { reg, location, a } => make_line(7, reg, location, operand_of(a), none),
