@@ -165,7 +165,8 @@ pub record Ahead (L K T : ℕ) (bytes : List ℕ) (h : Header) (fenced : Bool) (
   -- Each thread so far had few lines.
   pub early : next ≤ size_pr + i * (size_th + max_lines * size_in)
   pub comes_to :
-      filled fenced h i next (rest_of L K (T - i) (drop next bytes)) ≡ told header_of (rest_of L K T (drop size_pr bytes))
+      filled fenced h i next (rest_of L K (T - i) (drop next bytes))
+      ≡ told header_of (rest_of L K T (drop size_pr bytes))
 
 -- Where the loop begins.
 pub begins : (T L K : ℕ) (bytes : List ℕ) → size_pr ≤ length bytes

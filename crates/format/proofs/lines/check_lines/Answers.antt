@@ -1,5 +1,4 @@
 -- A line that fails ends the lines; one that passes leads to the next.
-use native.Mathlib.Omega.{arith}
 use mathlib.Core.Path.{sym, ◌∙◌}
 use Rattle.format.proofs.FieldChecks.{handed_on}
 use Rattle.format.proofs.Turns.{lines_begin, turn_fails, turn_passes, lines_end}
@@ -8,9 +7,6 @@ use Rattle.format.proofs.lines.check_lines.Goals as goal
 pub loop-init : goal.loop-init
 loop-init c = lines_begin c.args.l c.args.k c.args.n c.args.bytes.now c.args.at c.requires
 
-pub check_line-requires : goal.check_line-requires
-check_line-requires c = c.loop.invariant.inside
-
 pub returns-in_err-fenced : goal.returns-in_err-fenced
 returns-in_err-fenced c =
     handed_on _ _ c.from_residual.ensures
@@ -18,10 +14,6 @@ returns-in_err-fenced c =
 
 pub loop-preserved : goal.loop-preserved
 loop-preserved c = turn_passes c.loop.invariant c.loop-test.true (sym c.in_ok-fenced.ensures)
-
-pub overflow_add-next : goal.overflow_add-next
-overflow_add-next c =
-    omega (arith, (turn_passes c.loop.invariant c.loop-test.true (sym c.in_ok-fenced.ensures)).inside)
 
 pub returns : goal.returns
 returns c = sym (lines_end c.loop.invariant c.loop-test.false)
