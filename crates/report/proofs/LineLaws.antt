@@ -148,4 +148,7 @@ module _ {steps : List (List ℕ)} (n m i : ℕ) (trace : List ℕ) (cut : steps
       let second = byte_at 1 (omega arith) in
       let third = byte_at 2 (omega arith) in
       let fourth = byte_at 3 (omega arith) in
-      put_as (let e : line_at trace (i * step_size) ≡ step_line (get_or (get_or (take m steps) i []) 0 0) (get_or (get_or (take m steps) i []) 1 0) (get_or (get_or (take m steps) i []) 2 0) (get_or (get_or (take m steps) i []) 3 0) = cc in e) p
+      let bytes = get_or (take m steps) i [] in
+      let same : line_at trace (i * step_size)
+          ≡ step_line (get_or bytes 0 0) (get_or bytes 1 0) (get_or bytes 2 0) (get_or bytes 3 0) = cc in
+      put_as same p

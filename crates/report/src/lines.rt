@@ -18,6 +18,7 @@ pub fn put_line(out: &mut [u8], at: usize, mark: &[u8], n: usize) -> usize
 }
 
 // "kinds 0 to 3 for L, R, W, M"; any other byte, which no trace of ours has, gets a question mark.
+#[tactic(auto, unfolding(crate::specs::Text::letter_of))]
 fn letter_of(kind: u8) -> u8
     ensures { result ≡ letter_of kind }
 {

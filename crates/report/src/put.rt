@@ -24,7 +24,8 @@ pub fn put_bytes(out: &mut [u8], at: usize, bytes: &[u8]) -> usize
     next
 }
 
-// A number in decimal: the digits before the last, then the last.
+// A number in decimal: the digits before the last, then the last. By hand: where the buffer ends within a number its
+// first digits are printed, and a writer of the library would fail.
 fn put_decimal(out: &mut [u8], at: usize, n: usize) -> usize
     ensures { Put out.old at (decimal n) out.new result }
 {
