@@ -133,6 +133,8 @@ module _ {L K n : ℕ} {bytes : List ℕ} {at : ℕ} {fenced : Bool} {next passe
       let none : n - passed ≡ 0 = omega arith in
       sym (rw none at ahead.comes_to) ∙ ap accepted (or-false fenced)
 
+pub ruleset line_turns = (lines_begin, turn_fails, turn_passes, lines_end, handed_on)
+
 -- A line's record that does not stand there is refused; where it does, its fields are checked.
 pub line_unmarked : (L K n : ℕ) (bytes : List ℕ) → is_record mark_in size_in bytes ≡ false
     → told line_is_fence (read_line L K n bytes) ≡ refused 3

@@ -47,6 +47,7 @@ fn check_line(bytes: &[u8], at: usize, l: u8, k: u8, n: u8) -> Result<bool, Refu
 }
 
 // All n lines of a thread, from the cursor: whether a fence is among them.
+#[tactic(auto, using(crate::proofs::Turns::line_turns))]
 pub fn check_lines(bytes: &[u8], at: usize, l: u8, k: u8, n: u8) -> Result<bool, Refusal>
     requires { at ≤ length bytes.now }
     ensures { outcome_of result ≡ told lines_have_fence (read_lines l k n n (drop at bytes.now)) }

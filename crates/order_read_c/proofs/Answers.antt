@@ -74,6 +74,9 @@ module _ (bytes : List ℕ) {h : Header} (e : accepted h ≡ told header_of (rea
           )
 
       module _ (less : i < get_or h.counts t 0) where
+        line_there : i < length (lines_of (program_of bytes) t)
+        line_there = omega (arith, lines_counted bytes h is t thread_there)
+
         pub line_stands : get_or h.starts t 0 + i * size_in + size_in ≤ length bytes
         line_stands = line_inside bytes h is there less
 
@@ -86,7 +89,7 @@ module _ (bytes : List ℕ) {h : Header} (e : accepted h ≡ told header_of (rea
         line_answered found finds =
             rw (finds t (line_counted bytes h is there less) (wait 0 (constant 0))) (answer_is ∙ rw (
               lt-ltb t (length (program_of bytes).threads) thread_there,
-              lt-ltb i (length (lines_of (program_of bytes) t)) (omega (arith, lines_counted bytes h is t thread_there)),
+              lt-ltb i (length (lines_of (program_of bytes) t)) line_there,
             ))
 
 pub ruleset header_read = (refusal_answered, header_whole, header_answered)

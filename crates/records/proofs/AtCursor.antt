@@ -28,5 +28,5 @@ pub record_due : (mark bytes : List ℕ) (at size : ℕ) → is_record mark size
 unfolding is_record
 record_due mark bytes at size =
     let whole : take (length bytes - at) (drop at bytes) ≡ drop at bytes =
-        simp (← length-drop at bytes) (take-length (drop at bytes)) in
+    simp (← length-drop at bytes) (take-length (drop at bytes)) in
     rw (length-drop at bytes, front_tested mark (drop at bytes), whole)

@@ -90,5 +90,11 @@ pub fn put_ending(out: &mut [u8], count: usize, steps: usize, ending: Ending) ->
 {
     let thread = ending.thread as usize + 1;
     let next = put_run(out, count, steps, thread);
-    put_access(out, next, u8::from(ending.kind), ending.location, ending.value)
+    put_access(
+        out,
+        next,
+        u8::from(ending.kind),
+        ending.location,
+        ending.value,
+    )
 }

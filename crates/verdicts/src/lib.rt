@@ -26,7 +26,8 @@ pub enum Report {
     Short {
         wanted: usize,
     },
-    // The number of the check that failed.
+    // The number of the check that failed, and not a Refusal: the definition has a report for every outcome of reading,
+    // whatever its number.
     Refused {
         number: u8,
     },
