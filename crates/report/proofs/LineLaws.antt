@@ -150,5 +150,5 @@ module _ {steps : List (List ℕ)} (n m i : ℕ) (trace : List ℕ) (cut : steps
       let fourth = byte_at 3 (omega arith) in
       let bytes = get_or (take m steps) i [] in
       let same : line_at trace (i * step_size)
-          ≡ step_line (get_or bytes 0 0) (get_or bytes 1 0) (get_or bytes 2 0) (get_or bytes 3 0) = cc in
+      ≡ step_line (get_or bytes 0 0) (get_or bytes 1 0) (get_or bytes 2 0) (get_or bytes 3 0) = cc in
       put_as same p
