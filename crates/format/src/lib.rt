@@ -13,7 +13,7 @@ ghost use Rattle.format.specs.Answer.{reading, LineAt, line_means};
 
 use lines::decode;
 use program::Refusal;
-use records::{Fields, Op, is_record};
+use records::{Fields, is_record};
 use threads::read_threads;
 
 // The bytes of each record.
@@ -127,8 +127,5 @@ pub fn line_at(bytes: &[u8], start: usize, k: usize, i: usize) -> Line
     ensures { (t : ℕ) → LineAt bytes.now start k i t → (other : ModelLine)
         → line_means result ≡ get_or (lines_of (program_of bytes.now) t) i other }
 {
-    let fields = Fields::at(bytes, start + i * IN_SIZE);
-    // An accepted input has no op here that the table has not.
-    let op = Op::try_from(fields.op).unwrap_or(Op::Sum);
-    decode(op, fields, k)
+    decode(Fields::at(bytes, start + i * IN_SIZE), k)
 }

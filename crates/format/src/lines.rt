@@ -1,6 +1,7 @@
 // The lines of a thread: their checks, and the line of a record that passed.
 ghost use Rattle.std.specs.Prelude.{◌≡◌, ◌≤◌, length, drop};
 ghost use Rattle.program.specs.Program.{is_fence};
+ghost use Rattle.program.specs.Ops.{op_at};
 ghost use Rattle.program.specs.Outcome.{told};
 ghost use Rattle.program.specs.Number.{outcome_of};
 ghost use Rattle.program.specs.Format.{operand, fields_to_line, read_line, read_lines};
@@ -19,16 +20,16 @@ fn check_fields(fields: Fields, l: u8, k: u8, n: u8) -> Result<bool, Refusal>
         ≡ told is_fence (fields_to_line l k n fields.op fields.reg fields.target fields.a fields.b) }
 {
     let op = Op::try_from(fields.op)?;
-    if !op.leaves_room(l) {
+    if !fields.leaves_room(l) {
         return Err(Refusal::NoRoomForFence);
     }
-    if !fields.is_reg_and_rest(op) {
+    if !fields.is_reg_and_rest() {
         return Err(Refusal::BadFields);
     }
-    if !fields.is_target(op, l, n) {
+    if !fields.is_target(l, n) {
         return Err(Refusal::NoSuchTarget);
     }
-    if !fields.are_operands(op, k) {
+    if !fields.are_operands(k) {
         return Err(Refusal::NoSuchOperand);
     }
     Ok(op == Op::Fence)
@@ -75,7 +76,7 @@ fn operand_of(k: usize, x: u8) -> Operand
 
 // The line that an op makes of the fields of its record.
 #[tactic(auto, using(crate::proofs::FieldChecks::row_makes), unfolding(crate::specs::Answer::line_means))]
-pub fn decode(op: Op, fields: Fields, k: usize) -> Line
+fn made(op: Op, fields: Fields, k: usize) -> Line
     ensures { line_means result
         ≡ (table_row op).makes fields.reg fields.target (operand k fields.a) (operand k fields.b) }
 {
@@ -104,4 +105,12 @@ pub fn decode(op: Op, fields: Fields, k: usize) -> Line
         Op::Bcas => Line::Bcas { location, a, b },
         Op::Fence => Line::Fence,
     }
+}
+
+// The line that the fields of an op's record are.
+pub fn decode(fields: Fields, k: usize) -> Line
+    ensures { line_means result
+        ≡ (op_at fields.op).makes fields.reg fields.target (operand k fields.a) (operand k fields.b) }
+{
+    made(Op::of(fields.op), fields, k)
 }

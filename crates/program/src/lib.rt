@@ -15,7 +15,8 @@ pub enum Kind {
     Update,
 }
 
-// What a step shows: that its line is local, or the kind and location of its access and the value read or written.
+// What a step shows: that its line is local, or the kind and location of its access and the value read or written. Local
+// is one of four kinds that a step of the trace has, so this is no `Option` of an access.
 #[derive(Clone, Copy, Debug, PartialEq, Eq)]
 pub enum Label {
     Local,

@@ -1,2 +1,3 @@
 pub mod AtCursor
+pub mod FirstRow
 pub mod RowTests

@@ -1,8 +1,9 @@
-// The tests of one record, each an equation with its definition in specs/Format.antt of the crate program: its
-// mark, and the fields of a line. Which test comes first, and what number it has, is the reader's (crate format).
+// The ops of a line's record, and the tests of one record, by their definitions in specs/Format.antt of the crate
+// program: its mark, and the fields of a line. Which test comes first is the reader's (crate format).
 #![tactic(auto)]
 
 ghost use Rattle.std.specs.Prelude.{◌≡◌, ◌+◌, ◌≤◌, length, drop};
+ghost use Rattle.program.specs.Ops.{op_at};
 ghost use Rattle.program.specs.Format.{is_record, is_operand, is_target, is_reg_and_rest, are_operands, leaves_room};
 ghost use Rattle.records.specs.Fields.{OpDecoded, op_number, table_row, fields_of, make_row, row_of};
 
@@ -84,7 +85,34 @@ fn uses(reg: bool, target: Option<Target>, a: bool, b: bool) -> Row
     Row { reg, target, a, b }
 }
 
+impl From<Op> for u8 {
+    ghost from_gives = { λ op byte. byte ≡ op_number op };
+
+    fn from(op: Op) -> u8 {
+        match op {
+            Op::Sum => 1,
+            Op::Equal => 2,
+            Op::Less => 3,
+            Op::Jump => 4,
+            Op::Write => 5,
+            Op::Read => 6,
+            Op::Fadd => 7,
+            Op::Cas => 8,
+            Op::Wait => 9,
+            Op::Bcas => 10,
+            Op::Fence => 11,
+        }
+    }
+}
+
 impl Op {
+    // The op whose row of the op table a byte gets: the first, where no op has the byte.
+    pub fn of(byte: u8) -> Op
+        ensures { table_row result ≡ op_at byte }
+    {
+        Op::try_from(byte).unwrap_or(Op::Sum)
+    }
+
     // The op table: the fields that each op uses, reg, target, A and B.
     #[tactic(auto, unfolding(program::specs::Ops::op_at, program::specs::Ops::op_table, program::specs::Ops::sum_op))]
     pub fn row(self) -> Row
@@ -102,13 +130,6 @@ impl Op {
         }
     }
 
-    // Check 12, among l locations: a fence wants one more.
-    #[tactic(auto, unfolding(program::specs::Format::leaves_room, program::specs::Format::when_used))]
-    pub fn leaves_room(self, l: u8) -> bool
-        ensures { result ≡ leaves_room l (op_number self) }
-    {
-        self != Op::Fence || usize::from(l) < limits::LOCATIONS
-    }
 }
 
 // The record that is due stands at the cursor, whole and with its mark.
@@ -144,12 +165,20 @@ impl Fields {
         }
     }
 
-    // Check 6, of the fields of an op's line.
-    #[tactic(auto, using(crate::proofs::RowTests::five_tests))]
-    pub fn is_reg_and_rest(self, op: Op) -> bool
-        ensures { result ≡ is_reg_and_rest (table_row op) self.reg self.target self.a self.b }
+    // Check 12, among l locations: a fence wants one more.
+    #[tactic(auto, unfolding(program::specs::Format::leaves_room, program::specs::Format::when_used))]
+    pub fn leaves_room(self, l: u8) -> bool
+        ensures { result ≡ leaves_room l self.op }
     {
-        let used = op.row();
+        self.op != u8::from(Op::Fence) || usize::from(l) < limits::LOCATIONS
+    }
+
+    // Check 6.
+    #[tactic(auto, using(crate::proofs::RowTests::five_tests))]
+    pub fn is_reg_and_rest(self) -> bool
+        ensures { result ≡ is_reg_and_rest (op_at self.op) self.reg self.target self.a self.b }
+    {
+        let used = Op::of(self.op).row();
         (!used.reg || usize::from(self.reg) < limits::REGISTERS)
             && (used.reg || self.reg == 0)
             && (used.target.is_some() || self.target == 0)
@@ -159,10 +188,10 @@ impl Fields {
 
     // Check 7, among l locations, in a thread of n lines.
     #[tactic(auto, using(crate::proofs::RowTests::targets_tested))]
-    pub fn is_target(self, op: Op, l: u8, n: u8) -> bool
-        ensures { result ≡ is_target (table_row op).target l n self.target }
+    pub fn is_target(self, l: u8, n: u8) -> bool
+        ensures { result ≡ is_target (op_at self.op).target l n self.target }
     {
-        match op.row().target {
+        match Op::of(self.op).row().target {
             None => true,
             Some(Target::Location) => self.target < l,
             Some(Target::Line) => self.target <= n,
@@ -171,10 +200,10 @@ impl Fields {
 
     // Check 8, among k values.
     #[tactic(auto, using(crate::proofs::RowTests::two_tests))]
-    pub fn are_operands(self, op: Op, k: u8) -> bool
-        ensures { result ≡ are_operands (table_row op) k self.a self.b }
+    pub fn are_operands(self, k: u8) -> bool
+        ensures { result ≡ are_operands (op_at self.op) k self.a self.b }
     {
-        let used = op.row();
+        let used = Op::of(self.op).row();
         (!used.a || is_operand(k, self.a)) && (!used.b || is_operand(k, self.b))
     }
 }

@@ -24,8 +24,8 @@ pub fn put_bytes(out: &mut [u8], at: usize, bytes: &[u8]) -> usize
     next
 }
 
-// A number in decimal: the digits before the last, then the last. By hand: where the buffer ends within a number its
-// first digits are printed, and a writer of the library would fail.
+// A number in decimal: the digits before the last, then the last. By hand: what the library
+// promises of a number's text is that text or a cut one, and here each digit counts.
 fn put_decimal(out: &mut [u8], at: usize, n: usize) -> usize
     ensures { Put out.old at (decimal n) out.new result }
 {
