@@ -3,18 +3,18 @@ use Prim.Native.Nat.{ℕ, ◌<◌, ◌≤◌}
 use native.Mathlib.Omega.{arith}
 use mathlib.Core.Path.{◌≡◌, refl, ap, sym, ◌∙◌}
 use mathlib.Core.Bool.{true, false}
-use mathlib.Core.Option.{none, some}
+use mathlib.Core.Option.{none, some, some-injective}
 use mathlib.Core.List.{List}
 use lib.ListN.{length, get_or, get_elem?}
 use Rattle.limits.specs.Limits.{max_threads}
-use Rattle.lists.proofs.Places.{place_past_end, place_has_entry}
+use Rattle.lists.proofs.Places.{place_past_end, place_has_entry, place_in_range, place_empty}
 use Rattle.program.specs.Program.{Program, Line, read, lines_of}
-use Rattle.std.specs.Prelude.{Result, Ok, IsErr, IsErrAnd}
+use Rattle.std.specs.Prelude.{Result, Ok, IsErr, IsErrAnd, Some, None}
 use Rattle.program.specs.Outcome.{Outcome, told}
 use Rattle.program.specs.Outcome.Outcome.{refused, accepted}
 use Rattle.program.specs.Format.{read_program, program_in, program_of}
 use Rattle.format.specs.Source.{span_of, header_of, is_accepted}
-use Rattle.format.specs.Answer.{Accepted, LineAt, line_means}
+use Rattle.format.specs.Answer.{Accepted, LineAt, line_means, found_line}
 use Rattle.program.specs.Number.{refusal_number}
 use Rattle.program.specs.declared.Refusal.{Refusal}
 use Rattle.format.specs.Read.{header_read}
@@ -95,3 +95,20 @@ module _ (s : Source) where
         ∙ sym (place_has_entry (lines_of (program_of bytes) t) n (read 0 0) counted.in_lines)
 
 pub ruleset lines_known = (thread_in_limit, no_line, a_line)
+
+-- The line that was found is the one that stands there.
+module _ (lines : List Line) (n : ℕ) where
+  module _ (line : code.Line) (found : found_line (Some line) ≡ get_elem? lines n) where
+    pub line_in_lines : n < length lines
+    unfolding found_line
+    line_in_lines = place_in_range lines n (sym found)
+
+    pub line_is : (other : Line) → line_means line ≡ get_or lines n other
+    unfolding found_line
+    line_is other =
+        some-injective (line_means line) (get_or lines n other)
+        (found ∙ place_has_entry lines n other line_in_lines)
+
+  pub end_past : found_line None ≡ get_elem? lines n → length lines ≤ n
+  unfolding found_line
+  end_past e = place_empty lines n (sym e)
