@@ -4,7 +4,7 @@ use native.Mathlib.Omega.{arith}
 use native.Mathlib.Numerals.{add-one}
 use mathlib.Core.Path.{◌≡◌, refl, ap, sym, ◌∙◌}
 use mathlib.Core.Bool.{Bool, true, false, cond, ◌||◌, or_assoc, or-false}
-use mathlib.Core.List.{List, ◌∷◌, map}
+use mathlib.Core.List.{List, ◌∷◌}
 use lib.ListN.{length, drop, set, replicate, length-drop}
 use lib.Seq.{sets, drop-drop}
 use Rattle.std.specs.Int.{from_bool}
@@ -15,11 +15,11 @@ use Rattle.program.specs.Program.{Line, Program, any_is, has_fence, have_fence, 
 use Rattle.program.specs.Outcome.{Outcome, check, and_then, told}
 use Rattle.program.specs.Outcome.Outcome.{refused, accepted}
 use Rattle.program.specs.Format.{size_pr, size_th, size_in, read_thread, read_threads, ends_after}
-use Rattle.program.specs.Layout.{starts_from, thread_size}
-use Rattle.format.specs.Answer.{header_of}
+use Rattle.program.specs.Layout.{thread_size}
+use Rattle.format.specs.Source.{span_of, spans_from, header_of}
 use Rattle.format.specs.Inner.{lines_told}
 use Rattle.format.specs.declared.Header.{Header}
-use Rattle.format.specs.declared.threads.Lines.{Lines}
+use Rattle.format.specs.declared.threads.ThreadRead.{ThreadRead}
 use Rattle.format.proofs.Turns.{is_accepted, is_refused}
 use Rattle.program.proofs.AcceptedThreads.{thread_read, threads_read}
 
@@ -30,8 +30,7 @@ with_thread h i start count =
       threads = h.threads;
       locations = h.locations;
       values = h.values;
-      starts = set h.starts i start;
-      counts = set h.counts i count;
+      lines = set h.lines i (span_of start count);
     }
 
 -- The answer once the rest of the threads, from thread i and byte next on, has been read into a header that counts the
@@ -44,8 +43,7 @@ filled fenced h i next (accepted p) =
       threads = h.threads;
       locations = h.locations + cond (fenced || have_fence p.threads) 1 0;
       values = h.values;
-      starts = sets h.starts i (starts_from next p.threads);
-      counts = sets h.counts i (map length p.threads);
+      lines = sets h.lines i (spans_from next p.threads);
     })
 
 -- The rest of an input: so many threads, and the end.
@@ -59,8 +57,7 @@ none_read T L K =
       threads = T;
       locations = L;
       values = K;
-      starts = replicate max_threads 0;
-      counts = replicate max_threads 0;
+      lines = replicate max_threads (span_of 0 0);
     }
 
 -- A header with the fence's location counted, which is known behind the last thread.
@@ -70,8 +67,7 @@ with_fence fenced h =
       threads = h.threads;
       locations = h.locations + cond fenced 1 0;
       values = h.values;
-      starts = h.starts;
-      counts = h.counts;
+      lines = h.lines;
     }
 
 -- The program of threads that were read, among L named locations.
@@ -85,7 +81,7 @@ filled_cons : (L K : ℕ) (fenced : Bool) (h : Header) (i next : ℕ) (lines : L
     (and_then (and_then o (λ others. accepted (lines ∷ others.0, others.1))) (ends_after L K))
     ≡ filled (fenced || has_fence lines) (with_thread h i (next + size_th) (length lines)) (i + 1)
     (next + thread_size lines) (and_then o (ends_after L K))
-unfolding filled and_then ends_after check starts_from any_is
+unfolding filled and_then ends_after check spans_from any_is
 filled_cons L K fenced h i next lines (refused k) = refl
 filled_cons L K fenced h i next lines (accepted others) = ends_or_not (eqb (length others.1) 0)
   where
@@ -117,8 +113,8 @@ module _ (L K : ℕ) (bytes : List ℕ) (fenced : Bool) where
   thread_passes zero some h i next e = absurd (omega arith)
   thread_passes (suc left) some {n} {b} h i next e =
       let (got, read, same) = is_accepted lines_told (read_thread L K bytes) e in
-      let counted : length got.0 ≡ n = ap (λ (x : Lines). x.count) same in
-      let is : has_fence got.0 ≡ b = ap (λ (x : Lines). x.fenced) same in
+      let counted : length got.0 ≡ n = ap (λ (x : ThreadRead). x.count) same in
+      let is : has_fence got.0 ≡ b = ap (λ (x : ThreadRead). x.fenced) same in
       let now = thread_read L K bytes read in
       let one : left ≡ suc left - 1 = omega arith in
       let o = read_threads L K left got.1 in (
@@ -131,7 +127,7 @@ module _ (L K : ℕ) (bytes : List ℕ) (fenced : Bool) where
 ends : (L K : ℕ) (bytes : List ℕ) (fenced : Bool) (h : Header) (i next : ℕ) → length bytes ≡ 0
     → filled fenced h i next (rest_of L K 0 bytes)
     ≡ accepted (with_fence fenced h)
-unfolding filled read_threads and_then ends_after check starts_from any_is
+unfolding filled read_threads and_then ends_after check spans_from any_is
 ends L K bytes fenced h i next e = rw (eq-eqb (length bytes) 0 e, or-false fenced)
 
 goes_on : (L K : ℕ) (bytes : List ℕ) (fenced : Bool) (h : Header) (i next : ℕ) → 0 < length bytes

@@ -3,3 +3,4 @@ pub mod AcceptedLines
 pub mod Turns
 pub mod Filling
 pub mod AcceptedHeader
+pub mod SourceLines

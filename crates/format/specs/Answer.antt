@@ -1,31 +1,19 @@
 -- What the types of the code stand for, and each answer of the reader in terms of Format.
-use Rattle.std.specs.Prelude.{ℕ, ◌<◌, ◌≡◌, List, map, length, replicate}
-use Rattle.std.proofs.lemmas.List.Edits.{sets}
-use Rattle.limits.specs.Limits.{max_threads}
+use Rattle.std.specs.Prelude.{ℕ, ◌<◌, ◌≡◌, List, length, Option, None, Some}
+use Rattle.std.proofs.Math.Option as model
 use Rattle.program.specs.Program.{Operand as ModelOperand, Line as ModelLine, Program, lines_of}
 use Rattle.program.specs.Program.Operand.{constant, register}
 use Rattle.program.specs.Program.Line.{sum, equal, less, jump, write, read, fadd, cas, wait, bcas, fence}
 use Rattle.program.specs.Outcome.{Outcome, told}
 use Rattle.program.specs.Outcome.Outcome.{accepted}
-use Rattle.program.specs.Format.{size_pr, read_program, program_of}
-use Rattle.program.specs.Layout.{starts_from, start_of}
+use Rattle.program.specs.Format.{read_program, program_of}
+use Rattle.program.specs.Layout.{start_of}
+use Rattle.format.specs.Source.{header_of}
 use Rattle.format.specs.declared.Header.{Header}
 use Rattle.format.specs.declared.Operand.{Operand}
 use Rattle.format.specs.declared.Operand.TheVariants.{Constant, Register}
 use Rattle.format.specs.declared.Line.{Line}
 use Rattle.format.specs.declared.Line.TheVariants.{Sum, Equal, Less, Jump, Write, Read, Fadd, Cas, Wait, Bcas, Fence}
-
--- The header of a program: T, the number of all its locations, K, and for each thread where its lines start and how
--- many there are, 0 past the last thread.
-unfoldable pub header_of : Program → Header
-header_of p =
-    record {
-      threads = length p.threads;
-      locations = p.locations;
-      values = p.values;
-      starts = sets (replicate max_threads 0) 0 (starts_from size_pr p.threads);
-      counts = sets (replicate max_threads 0) 0 (map length p.threads);
-    }
 
 -- The answer of the reader: the number of the first failed check, or the program's header.
 abbrev pub reading : Outcome Program → Outcome Header
@@ -61,3 +49,8 @@ line_means (Cas r x a b) = cas r x (operand_means a) (operand_means b)
 line_means (Wait x a) = wait x (operand_means a)
 line_means (Bcas x a b) = bcas x (operand_means a) (operand_means b)
 line_means Fence = fence
+
+-- The line that was found, if there is one.
+unfoldable pub found_line : Option Line → model.Option ModelLine
+found_line None = model.none
+found_line (Some line) = model.some (line_means line)

@@ -1,2 +1,4 @@
 pub mod Answer
 pub mod Inner
+pub mod Read
+pub mod Source

@@ -3,17 +3,18 @@
 #![tactic(auto)]
 
 mod lines;
+pub mod source;
 mod threads;
 
-ghost use Rattle.std.specs.Prelude.{◌≡◌, ℕ, ◌+◌, ◌*◌, ◌≤◌, length, get_or};
-ghost use Rattle.program.specs.Program.{Line as ModelLine, lines_of};
-ghost use Rattle.program.specs.Format.{size_in, are_in_range, read_program, program_of};
+ghost use Rattle.std.specs.Prelude.{◌≡◌, IfOk};
+ghost use Rattle.program.specs.Format.{are_in_range, read_program};
 ghost use Rattle.program.specs.Number.{outcome_of};
-ghost use Rattle.format.specs.Answer.{reading, LineAt, line_means};
+ghost use Rattle.format.specs.Answer.{reading};
+ghost use Rattle.format.specs.Read.{header_read};
 
-use lines::decode;
 use program::Refusal;
-use records::{Fields, is_record};
+use records::is_record;
+use source::Source;
 use threads::read_threads;
 
 // The bytes of each record.
@@ -23,16 +24,22 @@ const TH_SIZE: usize = 3;
 
 const IN_SIZE: usize = 7;
 
-// An accepted input: T, the number of all locations that runs have (L, and one more where there is a fence), K, and for
-// each thread the byte at which its lines start and how many there are, 0 past the last thread. Its arrays are of short
-// numbers, as the search copies them often.
+// The byte at which the lines of a thread start, and how many there are. Short numbers keep a header small, which every
+// step looks into.
+#[derive(Clone, Copy, Debug, PartialEq, Eq)]
+pub struct Span {
+    pub start: u16,
+    pub count: u16,
+}
+
+// What an accepted input says of itself: T, the number of all locations that runs have (L, and one more where there is a
+// fence), K, and for each thread where its lines are, with no line past the last thread.
 #[derive(Clone, Copy, Debug, PartialEq, Eq)]
 pub struct Header {
     pub threads: usize,
     pub locations: usize,
     pub values: usize,
-    pub starts: [u16; limits::THREADS],
-    pub counts: [u16; limits::THREADS],
+    pub lines: [Span; limits::THREADS],
 }
 
 #[derive(Clone, Copy, Debug, PartialEq, Eq)]
@@ -104,9 +111,9 @@ fn are_in_range(t: u8, l: u8, k: u8) -> bool
         && (limits::MIN_VALUES..=limits::VALUES).contains(&usize::from(k))
 }
 
-// Reads any input: the first failed check, or the header of the program that the bytes spell.
+// The checks, and the header of the program that the bytes spell.
 #[tactic(auto, using(crate::proofs::FieldChecks::header_checked), unfolding(program::specs::Format::read_program))]
-pub fn read(bytes: &[u8]) -> Result<Header, Refusal>
+fn read_header(bytes: &[u8]) -> Result<Header, Refusal>
     ensures { outcome_of result ≡ reading (read_program bytes.now) }
 {
     if !is_record(bytes, 0, b"PR", PR_SIZE) {
@@ -119,13 +126,12 @@ pub fn read(bytes: &[u8]) -> Result<Header, Refusal>
     read_threads(bytes, t, l, k)
 }
 
-// Line i of the thread whose lines start at the byte `start` of an accepted input, where K is k. The start and K are
-// taken and not the header, which is too large to be copied for each line.
-#[tactic(auto, using(crate::proofs::AcceptedLines::line_made))]
-pub fn line_at(bytes: &[u8], start: usize, k: usize, i: usize) -> Line
-    requires { start + i * size_in + size_in ≤ length bytes.now }
-    ensures { (t : ℕ) → LineAt bytes.now start k i t → (other : ModelLine)
-        → line_means result ≡ get_or (lines_of (program_of bytes.now) t) i other }
+// Reads any input: the first failed check, or the input with the header of the program that it spells.
+#[tactic(auto, using(crate::proofs::SourceLines::source_read))]
+pub fn read(bytes: &[u8]) -> Result<Source<'_>, Refusal>
+    ensures outcome { header_read result ≡ reading (read_program bytes.now) }
+    ensures bytes { IfOk result (λ source. source.bytes.now ≡ bytes.now) }
 {
-    decode(Fields::at(bytes, start + i * IN_SIZE), k)
+    let header = read_header(bytes)?;
+    Ok(Source { bytes, header })
 }

@@ -8,19 +8,19 @@ ghost use Rattle.format.specs.Answer.{reading};
 ghost use Rattle.format.specs.Inner.{lines_told};
 
 use crate::lines::check_lines;
-use crate::{Header, IN_SIZE, PR_SIZE, TH_SIZE};
+use crate::{Header, IN_SIZE, PR_SIZE, Span, TH_SIZE};
 use program::Refusal;
 use records::is_record;
 
 // A thread that was read: how many lines it has, and whether a fence is among them.
 #[derive(Clone, Copy, Debug, PartialEq, Eq)]
-pub struct Lines {
+pub struct ThreadRead {
     pub count: u8,
     pub fenced: bool,
 }
 
 #[tactic(auto, using(crate::proofs::Turns::thread_checks))]
-fn read_thread(bytes: &[u8], at: usize, l: u8, k: u8) -> Result<Lines, Refusal>
+fn read_thread(bytes: &[u8], at: usize, l: u8, k: u8) -> Result<ThreadRead, Refusal>
     requires { at ≤ length bytes.now }
     ensures { outcome_of result ≡ told lines_told (read_thread l k (drop at bytes.now)) }
 {
@@ -32,7 +32,7 @@ fn read_thread(bytes: &[u8], at: usize, l: u8, k: u8) -> Result<Lines, Refusal>
         return Err(Refusal::TooManyLines);
     }
     let fenced = check_lines(bytes, at + TH_SIZE, l, k, count)?;
-    Ok(Lines { count, fenced })
+    Ok(ThreadRead { count, fenced })
 }
 
 // The t threads of a program with l named locations and k values, from the first TH record to the end of the input.
@@ -45,15 +45,16 @@ pub fn read_threads(bytes: &[u8], t: u8, l: u8, k: u8) -> Result<Header, Refusal
         threads: usize::from(t),
         locations: usize::from(l),
         values: usize::from(k),
-        starts: [0; limits::THREADS],
-        counts: [0; limits::THREADS],
+        lines: [Span { start: 0, count: 0 }; limits::THREADS],
     };
     let mut fenced = false;
     let mut next = PR_SIZE;
     for i in 0..header.threads {
         let lines = read_thread(bytes, next, l, k)?;
-        header.starts[i] = (next + TH_SIZE) as u16;
-        header.counts[i] = u16::from(lines.count);
+        header.lines[i] = Span {
+            start: (next + TH_SIZE) as u16,
+            count: u16::from(lines.count),
+        };
         fenced |= lines.fenced;
         next += TH_SIZE + usize::from(lines.count) * IN_SIZE;
     }
