@@ -129,7 +129,6 @@ impl Op {
             Op::Fence => uses(false, None, false, false),
         }
     }
-
 }
 
 // The record that is due stands at the cursor, whole and with its mark.
