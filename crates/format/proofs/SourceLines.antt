@@ -9,7 +9,7 @@ use lib.ListN.{length, get_or, get_elem?}
 use Rattle.limits.specs.Limits.{max_threads}
 use Rattle.lists.proofs.Places.{place_past_end, place_has_entry, place_in_range, place_empty}
 use Rattle.program.specs.Program.{Program, Line, read, lines_of}
-use Rattle.std.specs.Prelude.{Result, Ok, IsErr, IsErrAnd, Some, None}
+use Rattle.std.specs.Prelude.{Result, Ok, Err, IsErr, IsErrAnd, Some, None}
 use Rattle.program.specs.Outcome.{Outcome, told}
 use Rattle.program.specs.Outcome.Outcome.{refused, accepted}
 use Rattle.program.specs.Format.{read_program, program_in, program_of}
@@ -56,6 +56,18 @@ pub refusal_told : (bytes : List ℕ) (why : Refusal)
     → header_read r ≡ told header_of (read_program bytes)
 unfolding told
 refusal_told bytes why e r err = ap (told (λ (x : Source). x.header)) (handed_on r why err) ∙ e
+
+-- What the reader tells, as it is told of the input.
+module _ (bytes : List ℕ) where
+  pub source_told : (s : Source) → header_read (Ok s) ≡ told header_of (read_program bytes)
+      → accepted s.header ≡ told header_of (read_program bytes)
+  unfolding told
+  source_told s e = e
+
+  pub why_told : (why : Refusal) → header_read (Err why) ≡ told header_of (read_program bytes)
+      → refused (refusal_number why) ≡ told header_of (read_program bytes)
+  unfolding told
+  why_told why e = e
 
 pub ruleset source_read = (passes, is_header, header_told, refusal_told)
 

@@ -1,5 +1,6 @@
 -- The answers of the exported reader, from the outcome of the definition.
-use Rattle.std.specs.Prelude.{ℕ, cond, ◌&&◌, length, get_or, replicate, ltb}
+use Rattle.std.specs.Prelude.{ℕ, cond, ◌&&◌, map, length, get_or, replicate, ltb}
+use Rattle.std.proofs.lemmas.List.Edits.{sets}
 use Rattle.program.specs.Program.{Operand, Line, Program, lines_of, named_locations}
 use Rattle.program.specs.Program.Operand.{constant, register}
 use Rattle.program.specs.Program.Line.{sum, equal, less, jump, write, read, fadd, cas, wait, bcas, fence}
@@ -7,23 +8,11 @@ use Rattle.program.specs.Ops.{fence_op}
 use Rattle.program.specs.Outcome.{Outcome}
 use Rattle.program.specs.Outcome.Outcome.{refused, accepted}
 use Rattle.limits.specs.Limits.{max_threads}
-use Rattle.format.specs.Answer.{header_of}
-use Rattle.format.specs.declared.Header.{Header}
+use Rattle.program.specs.Format.{size_pr}
+use Rattle.program.specs.Layout.{starts_from}
 use Rattle.order_read_c.specs.declared.HeaderAnswer.{HeaderAnswer}
 use Rattle.order_read_c.specs.declared.OperandAnswer.{OperandAnswer}
 use Rattle.order_read_c.specs.declared.LineAnswer.{LineAnswer}
-
--- The number, L, and the rest of the header.
-abbrev pub with_header : (number L : ℕ) → Header → HeaderAnswer
-with_header number L h =
-    record {
-      number = number;
-      threads = h.threads;
-      locations = L;
-      values = h.values;
-      starts = h.starts;
-      counts = h.counts;
-    }
 
 -- The number of the check that failed, and 0 in the rest.
 abbrev pub refused_answer : ℕ → HeaderAnswer
@@ -37,10 +26,19 @@ refused_answer number =
       counts = replicate max_threads 0;
     }
 
--- 0 where no check failed, and L is the number of the named locations.
+-- 0 where no check failed, T, L (the number of the named locations), K, and for each thread where its lines start and
+-- how many there are, 0 past the last thread.
 unfoldable pub header_answer : Outcome Program → HeaderAnswer
 header_answer (refused number) = refused_answer number
-header_answer (accepted p) = with_header 0 (named_locations p) (header_of p)
+header_answer (accepted p) =
+    record {
+      number = 0;
+      threads = length p.threads;
+      locations = named_locations p;
+      values = p.values;
+      starts = sets (replicate max_threads 0) 0 (starts_from size_pr p.threads);
+      counts = sets (replicate max_threads 0) 0 (map length p.threads);
+    }
 
 -- An operand: kind 1 for a constant, 2 for a register; kind 0 for none.
 abbrev pub no_operand : OperandAnswer

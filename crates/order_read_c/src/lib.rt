@@ -1,13 +1,14 @@
 // The reader for C and Rust: a static library of two functions.
 #![tactic(auto)]
 
-ghost use Rattle.std.specs.Prelude.{◌≡◌};
+ghost use Rattle.std.specs.Prelude.{◌≡◌, map};
+ghost use Rattle.format.specs.declared.Span.{Span};
 ghost use Rattle.program.specs.Format.{read_program};
 ghost use Rattle.format.specs.Answer.{operand_means, line_means};
 ghost use Rattle.order_read_c.specs.Answer.{header_answer, no_operand, operand_answer};
 ghost use Rattle.order_read_c.specs.Answer.{make_line, no_line, line_fields, line_answer};
 
-use format::{Line, Operand};
+use format::{Line, Operand, Span};
 
 // The answer of order_read: the number of the failed check, or 0 and the program's header.
 #[repr(C)]
@@ -44,28 +45,34 @@ pub struct LineAnswer {
     pub b: OperandAnswer,
 }
 
-// Short numbers as long ones.
-fn widened(short: [u16; limits::THREADS]) -> [usize; limits::THREADS]
-    ensures { result ≡ short }
+// Where the lines of each thread start, and how many there are.
+fn starts_of(lines: [Span; limits::THREADS]) -> [usize; limits::THREADS]
+    ensures { result ≡ map (λ (span : Span). span.start) lines }
 {
-    short.map(|number| usize::from(number))
+    lines.map(|span| usize::from(span.start))
+}
+
+fn counts_of(lines: [Span; limits::THREADS]) -> [usize; limits::THREADS]
+    ensures { result ≡ map (λ (span : Span). span.count) lines }
+{
+    lines.map(|span| usize::from(span.count))
 }
 
 // Reads any input.
-#[tactic(auto, using(crate::proofs::Answers::header_read))]
+#[tactic(auto, using(crate::proofs::Answers::header_read_there))]
 #[unsafe(no_mangle)]
 pub extern "C" fn order_read(program: &[u8]) -> HeaderAnswer
     ensures { result ≡ header_answer (read_program program.now) }
 {
     match format::read(program) {
-        Ok(header) => HeaderAnswer {
+        Ok(source) => HeaderAnswer {
             number: 0,
-            threads: header.threads,
+            threads: source.header.threads,
             // The header's own count has the fence's location too.
             locations: usize::from(program[3]),
-            values: header.values,
-            starts: widened(header.starts),
-            counts: widened(header.counts),
+            values: source.header.values,
+            starts: starts_of(source.header.lines),
+            counts: counts_of(source.header.lines),
         },
         Err(refusal) => HeaderAnswer {
             number: usize::from(u8::from(refusal)),
@@ -147,16 +154,14 @@ fn no_line() -> LineAnswer
 pub extern "C" fn order_line(program: &[u8], thread: usize, line: usize) -> LineAnswer
     ensures { result ≡ line_answer (read_program program.now) thread line }
 {
-    let Ok(header) = format::read(program) else {
+    let Ok(source) = format::read(program) else {
         return no_line();
     };
-    if header.threads <= thread || usize::from(header.counts[thread]) <= line {
+    if source.header.threads <= thread {
         return no_line();
     }
-    fields_of(format::line_at(
-        program,
-        usize::from(header.starts[thread]),
-        header.values,
-        line,
-    ))
+    match source.line(thread, line) {
+        None => no_line(),
+        Some(found) => fields_of(found),
+    }
 }
