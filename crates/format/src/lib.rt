@@ -24,8 +24,8 @@ const TH_SIZE: usize = 3;
 
 const IN_SIZE: usize = 7;
 
-// The byte at which the lines of a thread start, and how many there are. Short numbers keep a header small, which every
-// step looks into.
+// The byte at which the lines of a thread start, and how many there are. Short numbers, as a program
+// has 3,613 bytes at most.
 #[derive(Clone, Copy, Debug, PartialEq, Eq)]
 pub struct Span {
     pub start: u16,
