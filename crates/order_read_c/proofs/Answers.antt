@@ -48,7 +48,8 @@ module _ (part : Span → ℕ) where
   map-set (b ∷ l) zero a = refl
   map-set (b ∷ l) (suc i) a = ap (λ (r : List ℕ). part b ∷ r) (map-set l i a)
 
-  map-sets : (l : List Span) (i : ℕ) (others : List Span) → map part (sets l i others) ≡ sets (map part l) i (map part others)
+  map-sets : (l : List Span) (i : ℕ) (others : List Span)
+      → map part (sets l i others) ≡ sets (map part l) i (map part others)
   map-sets l i [] = refl
   map-sets l i (a ∷ others) =
       map-sets (set l i a) (suc i) others
@@ -61,12 +62,14 @@ row_is part l row long each =
     ext_get_or (part (span_of 0 0)) row (map part l) (long ∙ sym (length-map l part))
     (λ i less. each i (omega arith) ∙ sym (get_or-map part l i (span_of 0 0)))
 
-starts_in : (at : ℕ) (threads : List (List Line)) → map (λ (s : Span). s.start) (spans_from at threads) ≡ starts_from at threads
+starts_in : (at : ℕ) (threads : List (List Line))
+    → map (λ (s : Span). s.start) (spans_from at threads) ≡ starts_from at threads
 unfolding spans_from starts_from
 starts_in at [] = refl
 starts_in at (lines ∷ threads) = ap (λ (r : List ℕ). (at + size_th) ∷ r) (starts_in (at + thread_size lines) threads)
 
-counts_in : (at : ℕ) (threads : List (List Line)) → map (λ (s : Span). s.count) (spans_from at threads) ≡ map length threads
+counts_in : (at : ℕ) (threads : List (List Line))
+    → map (λ (s : Span). s.count) (spans_from at threads) ≡ map length threads
 unfolding spans_from
 counts_in at [] = refl
 counts_in at (lines ∷ threads) = ap (λ (r : List ℕ). length lines ∷ r) (counts_in (at + thread_size lines) threads)

@@ -5,6 +5,5 @@ use Rattle.order_read_c.proofs.order_read.Goals as goal
 
 pub returns-in-Ok : goal.returns-in-Ok
 returns-in-Ok c =
-    let read = c.in-Ok in
-    rw (c.starts_of.ensures, c.counts_of.ensures, c.from.ensures)
-    (sym (header_answered c.args.program.now read.source read.ensures.outcome))
+    let answered = header_answered c.args.program.now c.in-Ok.source c.in-Ok.ensures.outcome in
+    cc (answered, c.starts_of.ensures, c.counts_of.ensures)
