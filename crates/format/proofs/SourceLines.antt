@@ -22,7 +22,8 @@ use Rattle.format.specs.declared.Header.{Header}
 use Rattle.format.specs.declared.source.Source.{Source}
 use Rattle.format.specs.declared.Line as code
 use Rattle.format.proofs.FieldChecks.{handed_on}
-use Rattle.format.proofs.AcceptedHeader.{read_is_accepted, accepted_within, threads_counted, lines_counted, line_counted}
+use Rattle.format.proofs.AcceptedHeader.{read_is_accepted, accepted_within, threads_counted}
+use Rattle.format.proofs.AcceptedHeader.{lines_counted, line_counted}
 
 outcome_accepted : (o : Outcome Program) → is_accepted o ≡ true → o ≡ accepted (program_in o)
 unfolding is_accepted program_in
@@ -86,7 +87,8 @@ module _ (s : Source) where
   module _ {t : ℕ} (less : t < h.threads) where
     pub thread_in_limit : t < max_threads
     thread_in_limit =
-        omega (arith, threads_counted bytes h (source_accepted s), (accepted_within bytes h (source_accepted s)).few_threads)
+        let is = source_accepted s in
+        omega (arith, threads_counted bytes h is, (accepted_within bytes h is).few_threads)
 
     in_threads : t < length (program_of bytes).threads
     in_threads = omega (arith, threads_counted bytes h (source_accepted s))

@@ -32,8 +32,8 @@ pub struct Span {
     pub count: u16,
 }
 
-// What an accepted input says of itself: T, the number of all locations that runs have (L, and one more where there is a
-// fence), K, and for each thread where its lines are, with no line past the last thread.
+// What an accepted input says of itself: T, the number of all locations that runs have (L, and one more where there is
+// a fence), K, and for each thread where its lines are, with none past the last thread.
 #[derive(Clone, Copy, Debug, PartialEq, Eq)]
 pub struct Header {
     pub threads: usize,

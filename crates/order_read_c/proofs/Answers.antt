@@ -3,18 +3,18 @@ use Prim.Native.Nat.{ℕ, zero, suc, ◌+◌, ◌≤◌, ◌<◌}
 use native.Mathlib.Omega.{arith}
 use mathlib.Core.Path.{◌≡◌, refl, ap, ap₂, sym, ◌∙◌}
 use mathlib.Core.List.{List, [], ◌∷◌, map}
-use lib.ListN.{length, get_or, get_elem?, set, replicate}
-use lib.Seq.{sets}
+use lib.ListN.{length, get_or, get_elem?, set, replicate, length-map, get_or-map}
+use lib.Seq.{sets, ext_get_or}
 use borrow.Author.Tests.{lt-ltb, le-ltb}
-use Rattle.program.specs.Program.{Line, Program, lines_of}
+use Rattle.program.specs.Program.{Line, Program, lines_of, named_locations}
 use Rattle.program.specs.Program.Operand.{constant}
 use Rattle.program.specs.Program.Line.{wait}
 use Rattle.limits.specs.Limits.{max_threads}
 use Rattle.program.specs.Outcome.{Outcome, told}
-use Rattle.program.specs.Outcome.Outcome.{refused, accepted}
+use Rattle.program.specs.Outcome.Outcome.{accepted}
 use Rattle.program.specs.Number.{refusal_number}
 use Rattle.program.specs.declared.Refusal.{Refusal}
-use Rattle.program.specs.Format.{size_pr, read_program, program_of}
+use Rattle.program.specs.Format.{size_pr, size_th, read_program, program_of}
 use Rattle.program.specs.Layout.{thread_size, starts_from}
 use Rattle.program.proofs.RoundTrip.{named_in_header}
 use Rattle.std.specs.Prelude.{Ok, Err, Some, None}
@@ -48,40 +48,31 @@ module _ (part : Span → ℕ) where
   map-set (b ∷ l) zero a = refl
   map-set (b ∷ l) (suc i) a = ap (λ (r : List ℕ). part b ∷ r) (map-set l i a)
 
-  map-sets : (l : List Span) (i : ℕ) (others : List Span) → map part (sets l i others) ≡ sets (map part l) i (map part others)
+  map-sets : (l : List Span) (i : ℕ) (others : List Span)
+      → map part (sets l i others) ≡ sets (map part l) i (map part others)
   map-sets l i [] = refl
   map-sets l i (a ∷ others) =
       map-sets (set l i a) (suc i) others
       ∙ ap (λ (r : List ℕ). sets r (suc i) (map part others)) (map-set l i a)
 
-starts_in : (at : ℕ) (threads : List (List Line)) → map (λ (s : Span). s.start) (spans_from at threads) ≡ starts_from at threads
+-- A row that has that part of each span.
+pub row_is : (part : Span → ℕ) (l : List Span) (row : List ℕ) → length row ≡ length l
+    → ((i : ℕ) → i < length l → get_or row i (part (span_of 0 0)) ≡ part (get_or l i (span_of 0 0))) → row ≡ map part l
+row_is part l row long each =
+    ext_get_or (part (span_of 0 0)) row (map part l) (long ∙ sym (length-map l part))
+    (λ i less. each i (omega arith) ∙ sym (get_or-map part l i (span_of 0 0)))
+
+starts_in : (at : ℕ) (threads : List (List Line))
+    → map (λ (s : Span). s.start) (spans_from at threads) ≡ starts_from at threads
 unfolding spans_from starts_from
 starts_in at [] = refl
-starts_in at (lines ∷ threads) = ap (λ (r : List ℕ). _ ∷ r) (starts_in (at + thread_size lines) threads)
+starts_in at (lines ∷ threads) = ap (λ (r : List ℕ). (at + size_th) ∷ r) (starts_in (at + thread_size lines) threads)
 
-counts_in : (at : ℕ) (threads : List (List Line)) → map (λ (s : Span). s.count) (spans_from at threads) ≡ map length threads
+counts_in : (at : ℕ) (threads : List (List Line))
+    → map (λ (s : Span). s.count) (spans_from at threads) ≡ map length threads
 unfolding spans_from
 counts_in at [] = refl
 counts_in at (lines ∷ threads) = ap (λ (r : List ℕ). length lines ∷ r) (counts_in (at + thread_size lines) threads)
-
-module _ (bytes : List ℕ) {h : Header} (is : Accepted bytes h) where
-  starts_handed : map (λ (s : Span). s.start) h.lines
-      ≡ sets (replicate max_threads 0) 0 (starts_from size_pr (program_of bytes).threads)
-  unfolding header_of
-  starts_handed =
-      let row = replicate max_threads (span_of 0 0) in
-      ap (λ (x : Header). map (λ (s : Span). s.start) x.lines) is.header
-      ∙ map-sets (λ s. s.start) row 0 (spans_from size_pr (program_of bytes).threads)
-      ∙ ap (sets (replicate max_threads 0) 0) (starts_in size_pr (program_of bytes).threads)
-
-  counts_handed : map (λ (s : Span). s.count) h.lines
-      ≡ sets (replicate max_threads 0) 0 (map length (program_of bytes).threads)
-  unfolding header_of
-  counts_handed =
-      let row = replicate max_threads (span_of 0 0) in
-      ap (λ (x : Header). map (λ (s : Span). s.count) x.lines) is.header
-      ∙ map-sets (λ s. s.count) row 0 (spans_from size_pr (program_of bytes).threads)
-      ∙ ap (sets (replicate max_threads 0) 0) (counts_in size_pr (program_of bytes).threads)
 
 -- The header's numbers, with L in byte 3.
 abbrev pub with_header : (number L : ℕ) → Header → HeaderAnswer
@@ -95,6 +86,35 @@ with_header number L h =
       counts = map (λ (s : Span). s.count) h.lines;
     }
 
+module _ (p : Program) where
+  starts_handed : map (λ (s : Span). s.start) (header_of p).lines
+      ≡ sets (replicate max_threads 0) 0 (starts_from size_pr p.threads)
+  unfolding header_of
+  starts_handed =
+      map-sets (λ s. s.start) (replicate max_threads (span_of 0 0)) 0 (spans_from size_pr p.threads)
+      ∙ ap (sets (replicate max_threads 0) 0) (starts_in size_pr p.threads)
+
+  counts_handed : map (λ (s : Span). s.count) (header_of p).lines
+      ≡ sets (replicate max_threads 0) 0 (map length p.threads)
+  unfolding header_of
+  counts_handed =
+      map-sets (λ s. s.count) (replicate max_threads (span_of 0 0)) 0 (spans_from size_pr p.threads)
+      ∙ ap (sets (replicate max_threads 0) 0) (counts_in size_pr p.threads)
+
+  header_handed : header_answer (accepted p) ≡ with_header 0 (named_locations p) (header_of p)
+  unfolding header_answer header_of
+  header_handed =
+      let answer : List ℕ → List ℕ → HeaderAnswer =
+      λ starts counts. record {
+        number = 0;
+        threads = length p.threads;
+        locations = named_locations p;
+        values = p.values;
+        starts = starts;
+        counts = counts;
+      } in
+      ap₂ answer (sym starts_handed) (sym counts_handed)
+
 module _ (bytes : List ℕ) (s : Source) (e : header_read (Ok s) ≡ told header_of (read_program bytes)) where
   is : Accepted bytes s.header
   is = read_is_accepted bytes (Ok s.header) (source_told bytes s e) refl
@@ -104,10 +124,9 @@ module _ (bytes : List ℕ) (s : Source) (e : header_read (Ok s) ≡ told header
   header_whole = (named_in_header bytes (program_of bytes) is.program).0
 
   pub header_answered : header_answer (read_program bytes) ≡ with_header 0 (get_or bytes 3 0) s.header
-  unfolding header_answer header_of
   header_answered =
-      rw (starts_handed bytes is, counts_handed bytes is)
-      (rw (is.program, (named_in_header bytes (program_of bytes) is.program).1, is.header))
+      ap header_answer is.program ∙ header_handed (program_of bytes)
+      ∙ ap₂ (with_header 0) (sym (named_in_header bytes (program_of bytes) is.program).1) (sym is.header)
 
   module _ (t i : ℕ) where
     answer_is : line_answer (read_program bytes) t i ≡ line_answer (accepted (program_of bytes)) t i
