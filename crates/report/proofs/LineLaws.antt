@@ -9,12 +9,13 @@ use mathlib.Core.List.{List, [], ◌∷◌, ◌++◌, append_assoc, append-nil}
 use lib.ListN.{length, get_or, take, drop}
 use lib.Seq.{get_or-take, get_or-drop, drop-drop}
 use Rattle.std.specs.Simd.{first_chunks}
-use Rattle.report.specs.Put.{Put}
+use Rattle.report.specs.Prints.{Prints}
 use Rattle.program.specs.Steps.{step_size, kind_number}
 use Rattle.rules.specs.declared.Ending.{Ending}
 use Rattle.report.specs.Text.{decimal, space, newline, line, letter_of, mark_nr, mark_st}
 use Rattle.report.specs.Text.{ending_line, step_line, step_lines}
-use Rattle.report.proofs.Puts.{put_nothing, put_then, put_as}
+use Rattle.report.specs.declared.put.Cursor.{Cursor}
+use Rattle.report.proofs.Puts.{prints_nothing, prints_then, prints_as}
 
 -- A mark and one field.
 pub line_of_two : (mark d : List ℕ) → line (mark ∷ d ∷ []) ≡ mark ++ (space ∷ d) ++ (newline ∷ [])
@@ -42,22 +43,22 @@ unfolding line
 line_of_first_four a b d e f others = simp append_assoc
 
 -- The line of an ending: the fields up to the thread, then the access.
-pub ending_put : {d e f : List ℕ} {next last kind : ℕ} (count steps : ℕ) (w : Ending) → kind ≡ kind_number w.kind
-    → Put d 0 (mark_nr ++ (space ∷ decimal count) ++ (space ∷ decimal steps) ++ (space ∷ decimal (w.thread + 1))) e next
-    → Put e next (space ∷ line ((letter_of kind ∷ []) ∷ decimal w.location ∷ decimal w.value ∷ [])) f last
-    → Put d 0 (ending_line count steps w) f last
+pub ending_prints : {a b d : Cursor} {kind : ℕ} (count steps : ℕ) (w : Ending) → kind ≡ kind_number w.kind
+    → Prints a (mark_nr ++ (space ∷ decimal count) ++ (space ∷ decimal steps) ++ (space ∷ decimal (w.thread + 1))) b
+    → Prints b (space ∷ line ((letter_of kind ∷ []) ∷ decimal w.location ∷ decimal w.value ∷ [])) d
+    → Prints a (ending_line count steps w) d
 unfolding ending_line
-ending_put count steps w numbered run access =
-    rw (← add-one w.thread, ← numbered) (put_as (line_of_first_four _ _ _ _ _ _) (put_then run access))
+ending_prints count steps w numbered run access =
+    rw (← add-one w.thread, ← numbered) (prints_as (line_of_first_four _ _ _ _ _ _) (prints_then run access))
 
 -- The line of a step: the mark and the thread, then the access.
-pub step_line_put : {d e f : List ℕ} {at next last : ℕ} (thread kind location value : ℕ)
-    → Put d at (mark_st ++ (space ∷ decimal thread)) e next
-    → Put e next (space ∷ line ((letter_of kind ∷ []) ∷ decimal location ∷ decimal value ∷ [])) f last
-    → Put d at (step_line thread kind location value) f last
+pub step_line_prints : {a b d : Cursor} (thread kind location value : ℕ)
+    → Prints a (mark_st ++ (space ∷ decimal thread)) b
+    → Prints b (space ∷ line ((letter_of kind ∷ []) ∷ decimal location ∷ decimal value ∷ [])) d
+    → Prints a (step_line thread kind location value) d
 unfolding step_line
-step_line_put thread kind location value front access =
-    put_as (line_of_first_two _ _ _ _) (put_then front access)
+step_line_prints thread kind location value front access =
+    prints_as (line_of_first_two _ _ _ _) (prints_then front access)
 
 -- The line of the step whose bytes stand there.
 abbrev line_at : (trace : List ℕ) (from : ℕ) → List ℕ
@@ -94,29 +95,25 @@ no_more_steps (suc i) (suc steps) (t ∷ a ∷ l ∷ []) h k = refl
 no_more_steps (suc i) (suc steps) (t ∷ a ∷ l ∷ v ∷ trace) h k =
     rw (no_more_steps i steps trace (omega arith) (omega arith))
 
-module _ {d : List ℕ} {at : ℕ} (trace : List ℕ) where
-  pub no_steps_put : Put d at (step_lines 0 trace) d at
+module _ {a : Cursor} (trace : List ℕ) where
+  pub no_steps_print : Prints a (step_lines 0 trace) a
   unfolding step_lines
-  no_steps_put = put_nothing d at
+  no_steps_print = prints_nothing a
 
-  pub step_put : {i : ℕ} {e f : List ℕ} {next last : ℕ} → Put d at (step_lines i trace) e next
-      → i < length trace / step_size → Put e next (line_at trace (i * step_size)) f last
-      → Put d at (step_lines (i + 1) trace) f last
-  step_put {i} p h q =
-      put_as (ap (λ (n : ℕ). step_lines n trace) (add-one i) ∙ one_more_step i trace h) (put_then p q)
-
-  pub steps_put : {i steps : ℕ} {e : List ℕ} {next : ℕ} → Put d at (step_lines i trace) e next
-      → length trace / step_size ≤ i → i ≤ steps → Put d at (step_lines steps trace) e next
-  steps_put {i} {steps} p h k = put_as (no_more_steps i steps trace h k) p
+  pub step_prints : {i : ℕ} {b d : Cursor} → Prints a (step_lines i trace) b
+      → i < length trace / step_size → Prints b (line_at trace (i * step_size)) d
+      → Prints a (step_lines (i + 1) trace) d
+  step_prints {i} p h q =
+      prints_as (ap (λ (n : ℕ). step_lines n trace) (add-one i) ∙ one_more_step i trace h) (prints_then p q)
 
   -- As many as there are whole steps.
-  pub whole_steps_put : {i : ℕ} (steps : ℕ) {e : List ℕ} {next : ℕ} → Put d at (step_lines i trace) e next
-      → i ≡ min steps (length trace / step_size) → Put d at (step_lines steps trace) e next
-  whole_steps_put {i} steps {e} {next} p is = go (dec_le steps (length trace / step_size))
+  pub whole_steps_print : {i : ℕ} (steps : ℕ) {b : Cursor} → Prints a (step_lines i trace) b
+      → i ≡ min steps (length trace / step_size) → Prints a (step_lines steps trace) b
+  whole_steps_print {i} steps {b} p is = go (dec_le steps (length trace / step_size))
     where
-      go : Dec (steps ≤ length trace / step_size) → Put d at (step_lines steps trace) e next
+      go : Dec (steps ≤ length trace / step_size) → Prints a (step_lines steps trace) b
       go (yes some) = let all : i ≡ steps = omega arith in rw all at p
-      go (no more) = steps_put p (omega arith) (omega arith)
+      go (no more) = prints_as (no_more_steps i steps trace (omega arith) (omega arith)) p
 
 -- The bytes of a step, as the library cuts a trace into steps.
 step_bytes_at : (n i : ℕ) (trace : List ℕ) → i < n
@@ -136,13 +133,13 @@ module _ {steps : List (List ℕ)} (n m i : ℕ) (trace : List ℕ) (cut : steps
       ∙ get_or-take step_size (drop (i * step_size) trace) j 0 h
       ∙ get_or-drop (i * step_size) trace j 0
 
-  pub line_put : {e f : List ℕ} {next last : ℕ}
-      → Put e next
+  pub line_prints : {a b : Cursor}
+      → Prints a
       (step_line (get_or (get_or (take m steps) i []) 0 0) (get_or (get_or (take m steps) i []) 1 0)
       (get_or (get_or (take m steps) i []) 2 0) (get_or (get_or (take m steps) i []) 3 0))
-      f last
-      → Put e next (line_at trace (i * step_size)) f last
-  line_put p =
+      b
+      → Prints a (line_at trace (i * step_size)) b
+  line_prints p =
       let from : i * step_size + 0 ≡ i * step_size = omega arith in
       let first = byte_at 0 (omega arith) ∙ ap (λ (k : ℕ). get_or trace k 0) from in
       let second = byte_at 1 (omega arith) in
@@ -151,4 +148,4 @@ module _ {steps : List (List ℕ)} (n m i : ℕ) (trace : List ℕ) (cut : steps
       let bytes = get_or (take m steps) i [] in
       let same : line_at trace (i * step_size)
       ≡ step_line (get_or bytes 0 0) (get_or bytes 1 0) (get_or bytes 2 0) (get_or bytes 3 0) = cc in
-      put_as same p
+      prints_as same p
