@@ -86,7 +86,7 @@ extern "C" {
 /* The same for a program with a fence, of T threads and L named locations, as its header says. */
 #define ORDER_FENCED_PLACE_SIZE(T, L) ORDER_PLACE_SIZE(T, (size_t)(L) + 1)
 
-/* A call uses less stack than this, in bytes, whatever it is given. This is measured, not proved: it uses 11,700 or so. */
+/* A call uses less stack than this, in bytes, whatever it is given. This is measured, not proved: it uses 6,500 or so. */
 #define ORDER_CHECK_STACK 16384
 
 /* The numbers of an answer, by their index. Every call writes all of them; what a verdict does not use is 0. */
