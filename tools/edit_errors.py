@@ -9,7 +9,7 @@ what the check says of each edit into FOLDER, and prints a line for each, with t
   MIX       a fact falls, and a name is missing too
   ONLYNAME  only names are missing, and what depends on them: it shows nothing; give it a form that keeps the names
   PROVED    it is not refused
-  BAD       it can't be applied
+  BAD       it can't be applied, or what it makes does not compile
 It calls rt's own functions to apply and check an edit.
 """
 import glob
@@ -22,6 +22,8 @@ import sys
 import time
 
 NAME = re.compile(r"has no field|is not in scope|has no `|exports no")
+# The source of the edit itself does not compile.
+SOURCE = re.compile(r"src/\w+\.rt:\d+:\d+: error\[")
 DEPENDS = re.compile(r"declarations? that depends? on")
 
 
@@ -55,6 +57,8 @@ def said_of(rt, crate, edit, folder):
     errors = [line for line in lines if ": error" in line or "error[" in line or line.startswith("note: src")]
     names = [line for line in errors if NAME.search(line)]
     facts = [line for line in errors if line not in names and not DEPENDS.search(line)]
+    if broken := [line for line in errors if SOURCE.search(line)]:
+        return f"BAD {crate.name}/{edit} {broken[0][:300]}"
     kind = "PROVED" if run.returncode == 0 else "ONLYNAME" if not facts else "MIX" if names else "OK"
     counts = f"{len(names)} names, {len(facts)} facts, {time.time() - began:.0f} s"
     return f"{kind} {crate.name}/{edit} {counts} | {(facts or names or ['?'])[0][:300]}"
