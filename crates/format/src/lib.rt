@@ -17,6 +17,8 @@ use records::is_record;
 use source::Source;
 use threads::read_threads;
 
+pub use source::line_at;
+
 // The bytes of each record.
 const PR_SIZE: usize = 5;
 

@@ -36,7 +36,7 @@ impl Source<'_> {
 
 // Line i of the thread whose lines start at the byte `start` of an accepted input, where K is k.
 #[tactic(auto, using(crate::proofs::AcceptedLines::line_made))]
-fn line_at(bytes: &[u8], start: usize, k: usize, i: usize) -> Line
+pub fn line_at(bytes: &[u8], start: usize, k: usize, i: usize) -> Line
     requires { start + i * size_in + size_in ≤ length bytes.now }
     ensures { (t : ℕ) → LineAt bytes.now start k i t → (other : ModelLine)
         → line_means result ≡ get_or (lines_of (program_of bytes.now) t) i other }

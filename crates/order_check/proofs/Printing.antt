@@ -43,7 +43,7 @@ module _ (text buffer : List ℕ) {after : List ℕ} {count : ℕ} (fits : lengt
 
 -- The front of the input that was kept is judged as the whole input is.
 module _ (buffer : List ℕ) {kept : ℕ} (lent_table table lent_trace trace out : List ℕ)
-    {slots : ℕ} (sizes : Sizes (length buffer) kept (length lent_table) (length lent_trace) slots (length out))
+    (sizes : Sizes (length buffer) kept (length lent_table) (length lent_trace) (length out))
     {program : List ℕ} (is_front : program ≡ take kept buffer) {r : Report}
     (checked : Checked (read_program program) lent_table table lent_trace trace r) where
   front_decides : (input : List ℕ) → take (length buffer) input ≡ take kept buffer

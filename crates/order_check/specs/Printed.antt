@@ -12,19 +12,15 @@ abbrev pub longest_program : ℕ
 longest_program = size_pr + max_threads * (size_th + max_lines * size_in)
 
 -- What is lent to the checker and to the printer, by the lengths of the slices.
-pub record Sizes (input kept table trace index buffer : ℕ) : Type 0 where
-  -- So much of standard input is kept, which is more than the longest program: a longer input is judged by its front.
-  pub input_is : input ≡ 4096
+pub record Sizes (input kept table trace buffer : ℕ) : Type 0 where
+  -- The input's buffer holds more than the longest program, so that a longer input is judged by its front.
   pub input_holds : longest_program < input
   pub kept_there : kept ≤ input
   -- "with a table of 49,152 bytes"
   pub table_is : table ≡ 49152
   -- "The printing program's trace grows to 8,192 bytes."
   pub trace_is : trace ≡ 8192
-  -- Two slots for each place of the table, and more.
-  pub index_is : index ≡ 4096
   -- The longest text fits.
-  pub text_is : buffer ≡ 34892
   pub text_fits : longest_text trace ≤ buffer
 
 -- The definition's report on all of standard input, with all that the checker promises of it, and its text.

@@ -75,8 +75,10 @@ fn print(
     slots: &mut [u64],
     buffer: &mut [u8],
 ) -> usize
-    requires { Sizes (length input.now) kept (length places.old) (length trace.old) (length slots.old)
-        (length buffer.old) }
+    requires sizes { Sizes (length input.now) kept (length places.old) (length trace.old) (length buffer.old) }
+    requires input_is { 4096 ≡ length input.now }
+    requires slots_are { 4096 ≡ length slots.old }
+    requires buffer_is { 34892 ≡ length buffer.old }
     ensures printed { PrintedFor input.now kept places.old places.new
         trace.old trace.new (take result buffer.new) }
     ensures counts { (result ≤ length buffer.new) × (result ≡ length (take result buffer.new)) }

@@ -1,15 +1,26 @@
 -- Laws of the record tests: a mark at a cursor, and a record that is due there.
-use Prim.Native.Nat.{ℕ, ◌-◌}
+use Prim.Native.Nat.{ℕ, suc, ◌+◌, ◌-◌, ◌≤◌}
+use native.Mathlib.Numerals.{add-one}
 use native.Mathlib.Omega.{arith}
 use Rattle.std.proofs.lemmas.Bool.Decides.{nat_tests}
-use mathlib.Core.Path.{◌≡◌, refl, ap₂}
+use mathlib.Core.Path.{◌≡◌, refl, ap, ap₂, sym, ◌∙◌}
 use mathlib.Core.Bool.{◌&&◌}
 use mathlib.Core.List.{List, [], ◌∷◌}
-use lib.ListN.{length, take, drop, length-drop}
-use lib.Seq.{take-length}
+use lib.ListN.{length, get_or, take, drop, length-drop}
+use lib.Seq.{take-length, drop-cons}
 use lib.Dec.{leb, eqb}
 use Rattle.std.specs.List.{starts_with as has_prefix}
 use Rattle.program.specs.Format.{starts_with, is_record}
+
+-- Two more elements stand at the front of a long enough rest.
+pub drop_two : (l : List ℕ) (at : ℕ) → at + 2 ≤ length l → drop at l ≡ get_or l at 0 ∷ get_or l (at + 1) 0 ∷ drop
+    (at + 2) l
+drop_two l at h =
+    drop-cons l at 0 (omega arith)
+    ∙ ap (λ (t : List ℕ). get_or l at 0 ∷ t)
+    (ap (λ (i : ℕ). drop i l) (sym (add-one at))
+    ∙ drop-cons l (at + 1) 0 (omega arith)
+    ∙ ap (λ (i : ℕ). get_or l (at + 1) 0 ∷ drop i l) (let e : suc (at + 1) ≡ at + 2 = omega arith in e))
 
 -- Two numbers are compared either way round.
 same_either_way : (a b : ℕ) → eqb a b ≡ eqb b a

@@ -37,11 +37,15 @@ sets_then l i (x ∷ xs) ys = go (sets_then (set l i x) (suc i) xs ys) (dec_lt i
         sets_past l i (x ∷ xs ++ ys) past
         ∙ sym (rw (sets_past l i (x ∷ xs) past) (sets_past l _ ys (omega arith)))
 
-put_nothing : (d : List ℕ) (at : ℕ) → Put d at [] d at
+pub put_nothing : (d : List ℕ) (at : ℕ) → Put d at [] d at
 put_nothing d at = record { written = refl; behind = omega arith }
 
+-- There is no room for a byte.
+pub put_past : (d : List ℕ) (at b : ℕ) → length d ≤ at → Put d at (b ∷ []) d at
+put_past d at b h = record { written = sym (set_out d at b h); behind = omega arith }
+
 -- One part, and then another behind it.
-put_then : {d e f : List ℕ} {at next last : ℕ} {xs ys : List ℕ} → Put d at xs e next → Put e next ys f last
+pub put_then : {d e f : List ℕ} {at next last : ℕ} {xs ys : List ℕ} → Put d at xs e next → Put e next ys f last
     → Put d at (xs ++ ys) f last
 put_then {d} {e} {at = at} {next = next} {xs = xs} {ys = ys} p q =
     let same : length e ≡ length d = ap length p.written ∙ length-sets d at xs in
@@ -56,6 +60,9 @@ put_then {d} {e} {at = at} {next = next} {xs = xs} {ys = ys} p q =
 -- The same bytes, said otherwise.
 pub put_as : {d e : List ℕ} {at next : ℕ} {xs ys : List ℕ} → ys ≡ xs → Put d at xs e next → Put d at ys e next
 put_as {d} {e} {at} {next} is p = subst⁻¹ (λ (b : List ℕ). Put d at b e next) is p
+
+pub put_same_length : {d e : List ℕ} {at next : ℕ} {xs : List ℕ} → Put d at xs e next → length e ≡ length d
+put_same_length {d} {at = at} {xs = xs} p = ap length p.written ∙ length-sets d at xs
 
 -- The same at a cursor.
 pub prints_nothing : (a : Cursor) → Prints a [] a
@@ -90,3 +97,7 @@ laid_behind front (b ∷ text) (old ∷ buffer) =
 -- What is printed from the start of the buffer.
 pub laid_from_start : (text d : List ℕ) {e : List ℕ} (next : ℕ) → Put d 0 text e next → e ≡ laid text d
 laid_from_start text d next p = p.written ∙ laid_behind [] text d
+
+pub put_from_start : {d e text : List ℕ} {next : ℕ} → Put d 0 text e next
+    → (next ≡ min (length text) (length d)) × (e ≡ laid text d)
+put_from_start {d} {text = text} {next = next} p = (omega (arith, p.behind), laid_from_start text d next p)
