@@ -88,15 +88,16 @@ fn print(
 }
 
 fn main(rt: HostRuntime) -> ExitCode {
+    // Before the first branch: an array that is made behind one is cleared twice.
     let mut input = [0; INPUT];
-    let Ok(kept) = read_input(&mut rt.stdin(), &mut input) else {
-        let _ = eprintln!(rt; "order_check: standard input can't be read to its end");
-        return ExitCode::FAILURE;
-    };
     let mut places = [0; TABLE];
     let mut trace = [0; TRACE];
     let mut slots = [0; INDEX];
     let mut lines = [0; TEXT];
+    let Ok(kept) = read_input(&mut rt.stdin(), &mut input) else {
+        let _ = eprintln!(rt; "order_check: standard input can't be read to its end");
+        return ExitCode::FAILURE;
+    };
     let length = print(
         &input,
         kept,
