@@ -15,9 +15,8 @@ ghost use Rattle.format.specs.Read.{header_read};
 use program::Refusal;
 use records::is_record;
 use source::Source;
-use threads::read_threads;
-
 pub use source::line_at;
+use threads::read_threads;
 
 // The bytes of each record.
 const PR_SIZE: usize = 5;

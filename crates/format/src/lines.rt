@@ -23,13 +23,14 @@ fn check_fields(fields: Fields, l: u8, k: u8, n: u8) -> Result<bool, Refusal>
     if !fields.leaves_room(l) {
         return Err(Refusal::NoRoomForFence);
     }
-    if !fields.is_reg_and_rest() {
+    let row = op.row();
+    if !row.is_reg_and_rest(fields) {
         return Err(Refusal::BadFields);
     }
-    if !fields.is_target(l, n) {
+    if !row.is_target(fields, l, n) {
         return Err(Refusal::NoSuchTarget);
     }
-    if !fields.are_operands(k) {
+    if !row.are_operands(fields, k) {
         return Err(Refusal::NoSuchOperand);
     }
     Ok(op == Op::Fence)

@@ -9,6 +9,7 @@ use Rattle.program.specs.Ops.Target.{no_target, to_location, to_line}
 use Rattle.program.specs.Format.{when_used, zero_unless_used, uses_target, is_target}
 use Rattle.program.specs.Format.{is_reg_and_rest, is_operand, are_operands}
 use Rattle.records.specs.Fields.{target_of, row_of}
+use Rattle.records.specs.declared.Row.{Row}
 use Rattle.records.specs.declared.Target.TheVariants.{Location, Line}
 use Prim.Native.Nat.{ℕ}
 
@@ -54,3 +55,27 @@ line_tested to_location l n x e = absurd cc
 line_tested to_line l n x e = refl
 
 pub ruleset targets_tested = (none_tested, location_tested, line_tested)
+
+-- The same of a row that is the op's.
+module _ (r : Row) (o : Op) (is : r ≡ row_of o) where
+  pub five_by_row : (reg target a b : ℕ) → is_reg_and_rest o reg target a b
+      ≡ ((not r.reg || ltb reg registers)
+      && ((r.reg || eqb reg 0)
+      && ((is_some r.target || eqb target 0)
+      && ((r.a || eqb a 0) && (r.b || eqb b 0)))))
+  five_by_row reg target a b = rw is (five_tests o reg target a b)
+
+  pub two_by_row : (k a b : ℕ) → are_operands o k a b
+      ≡ ((not r.a || is_operand k a) && (not r.b || is_operand k b))
+  two_by_row k a b = rw is (two_tests o k a b)
+
+  pub none_by_row : (l n x : ℕ) → r.target ≡ None → is_target o.target l n x ≡ true
+  none_by_row l n x e = none_tested o.target l n x (rw is at e)
+
+  pub location_by_row : (l n x : ℕ) → r.target ≡ Some Location → is_target o.target l n x ≡ ltb x l
+  location_by_row l n x e = location_tested o.target l n x (rw is at e)
+
+  pub line_by_row : (l n x : ℕ) → r.target ≡ Some Line → is_target o.target l n x ≡ leb x n
+  line_by_row l n x e = line_tested o.target l n x (rw is at e)
+
+pub ruleset target_by_row = (none_by_row, location_by_row, line_by_row)

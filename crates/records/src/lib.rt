@@ -173,36 +173,62 @@ impl Fields {
     }
 
     // Check 6.
-    #[tactic(auto, using(crate::proofs::RowTests::five_tests))]
     pub fn is_reg_and_rest(self) -> bool
         ensures { result ≡ is_reg_and_rest (op_at self.op) self.reg self.target self.a self.b }
     {
-        let used = Op::of(self.op).row();
-        (!used.reg || usize::from(self.reg) < limits::REGISTERS)
-            && (used.reg || self.reg == 0)
-            && (used.target.is_some() || self.target == 0)
-            && (used.a || self.a == 0)
-            && (used.b || self.b == 0)
+        Op::of(self.op).row().is_reg_and_rest(self)
     }
 
     // Check 7, among l locations, in a thread of n lines.
-    #[tactic(auto, using(crate::proofs::RowTests::targets_tested))]
     pub fn is_target(self, l: u8, n: u8) -> bool
         ensures { result ≡ is_target (op_at self.op).target l n self.target }
     {
-        match Op::of(self.op).row().target {
+        Op::of(self.op).row().is_target(self, l, n)
+    }
+
+    // Check 8, among k values.
+    pub fn are_operands(self, k: u8) -> bool
+        ensures { result ≡ are_operands (op_at self.op) k self.a self.b }
+    {
+        Op::of(self.op).row().are_operands(self, k)
+    }
+}
+
+// The tests by the row of the line's op, for a caller that has looked it up: three look-ups by three jumps cost more than
+// the tests.
+impl Row {
+    // Check 6.
+    #[tactic(auto, using(crate::proofs::RowTests::five_by_row))]
+    pub fn is_reg_and_rest(self, fields: Fields) -> bool
+        requires { self ≡ row_of (op_at fields.op) }
+        ensures { result ≡ is_reg_and_rest (op_at fields.op) fields.reg fields.target fields.a fields.b }
+    {
+        (!self.reg || usize::from(fields.reg) < limits::REGISTERS)
+            && (self.reg || fields.reg == 0)
+            && (self.target.is_some() || fields.target == 0)
+            && (self.a || fields.a == 0)
+            && (self.b || fields.b == 0)
+    }
+
+    // Check 7, among l locations, in a thread of n lines.
+    #[tactic(auto, using(crate::proofs::RowTests::target_by_row))]
+    pub fn is_target(self, fields: Fields, l: u8, n: u8) -> bool
+        requires { self ≡ row_of (op_at fields.op) }
+        ensures { result ≡ is_target (op_at fields.op).target l n fields.target }
+    {
+        match self.target {
             None => true,
-            Some(Target::Location) => self.target < l,
-            Some(Target::Line) => self.target <= n,
+            Some(Target::Location) => fields.target < l,
+            Some(Target::Line) => fields.target <= n,
         }
     }
 
     // Check 8, among k values.
-    #[tactic(auto, using(crate::proofs::RowTests::two_tests))]
-    pub fn are_operands(self, k: u8) -> bool
-        ensures { result ≡ are_operands (op_at self.op) k self.a self.b }
+    #[tactic(auto, using(crate::proofs::RowTests::two_by_row))]
+    pub fn are_operands(self, fields: Fields, k: u8) -> bool
+        requires { self ≡ row_of (op_at fields.op) }
+        ensures { result ≡ are_operands (op_at fields.op) k fields.a fields.b }
     {
-        let used = Op::of(self.op).row();
-        (!used.a || is_operand(k, self.a)) && (!used.b || is_operand(k, self.b))
+        (!self.a || is_operand(k, fields.a)) && (!self.b || is_operand(k, fields.b))
     }
 }
